@@ -1,0 +1,39 @@
+-- The response bound, and acceptance. Leans on Interference.
+use Prim.Native.Nat.{ℕ, suc, _+_, _-_, _*_, _/_}
+use mathlib.Core.Bool.{Bool, not, _&&_}
+use lib.Dec.{leb}
+use Rattle.trade.specs.First.{first, some, sumTo}
+use Rattle.trade.specs.Facts.{Facts}
+use Rattle.trade.specs.Interference.{interference}
+
+-- ceil(a / b)
+unfoldable pub ceil : ℕ → ℕ → ℕ
+ceil a b = (a + (b - 1)) / b
+
+-- how many instances of a flow above may act within R slots, where one may be carried in for so many slots
+unfoldable pub instances : ℕ → ℕ → ℕ → ℕ
+instances R carry period = ceil (R + carry - 1) period
+
+-- what flow l has to have within R slots: its own L, and for each flow h above it the instances of h, times I(l,h)
+unfoldable pub demand : Facts → (ℕ → ℕ) → ℕ → ℕ → ℕ
+demand f carry l R = f .len l + sumTo (λ h. instances R (carry h) (f .period h) * interference f l h) l
+
+-- R is admissible if L ≤ R ≤ D and R is at least that demand
+unfoldable pub admissible : Facts → (ℕ → ℕ) → ℕ → ℕ → Bool
+admissible f carry l R = leb (f .len l) R && leb R (f .deadline l) && leb (demand f carry l R) R
+
+-- the bound is the smallest admissible R; where there is none, this is D + 1
+unfoldable pub boundBy : Facts → (ℕ → ℕ) → ℕ → ℕ
+boundBy f carry l = first (admissible f carry l) (suc (f .deadline l))
+
+-- the carry-in of the flows above is their deadline
+unfoldable pub bound : Facts → ℕ → ℕ
+bound f l = boundBy f (f .deadline) l
+
+-- a flow with no response bound
+unfoldable pub boundless : Facts → ℕ → Bool
+boundless f l = not (leb (bound f l) (f .deadline l))
+
+-- facts are accepted if every flow has a response bound; with no flows they are
+unfoldable pub accepted : Facts → Bool
+accepted f = not (some (boundless f) (f .flows))

@@ -1,0 +1,241 @@
+-- The seven calls: for all that a call is handed, its answer, what it returns beside it, and what it leaves in lent memory, done or
+-- refused. Leans on Codes and all below it.
+use Prim.Native.Nat.{ℕ, suc, pred, _+_, _-_, _*_}
+use mathlib.Core.Bool.{true, false, cond}
+use mathlib.Core.List.{List, [], _∷_, _++_}
+use lib.Dec.{ltb}
+use lib.ListN.{length, take, drop, replicate}
+use Rattle.trade.specs.Limits.{mostFlows, recordBytes, stepBytes, areaBytes, grantBytes}
+use Rattle.trade.specs.First.{listTo}
+use Rattle.trade.specs.Bytes.{twoBytes, part, over, padded}
+use Rattle.trade.specs.Layout.{Sections, sectionsOf, planStart, allSteps, used, bookOf, tableOf, emptyTable}
+use Rattle.trade.specs.Facts.{Facts, factsOf}
+use Rattle.trade.specs.Answers.{isDone, firstOf, on, nothing}
+use Rattle.trade.specs.Bound.{bound}
+use Rattle.trade.specs.Slot.{State, atStart, granted, grantOf, grantsOf, nextState}
+use Rattle.trade.specs.Area.{stateIn, areaOf}
+use Rattle.trade.specs.Codes.{code1, code2, code3, code4, code5, code6, code7, code8, code9, code10, code11, code12, code13, code14, code15Adding, code15Removing}
+use Rattle.trade.specs.declared.answer.Answer.{Answer}
+use Rattle.trade.specs.declared.flow.Flow.{Flow}
+
+-- what a slice says, and what a table says
+unfoldable pub said : List ℕ → Facts
+said slice = factsOf (sectionsOf slice)
+
+-- the rules that a book has to pass, 1 to 8, and a table, 3, 5, 6 and 8
+unfoldable pub bookRules : List (List ℕ → Answer)
+bookRules =
+    code1
+    ∷ code2
+    ∷ (λ b. code3 (said b))
+    ∷ code4
+    ∷ (λ b. code5 (said b))
+    ∷ (λ b. code6 (said b))
+    ∷ code7
+    ∷ (λ b. code8 (said b))
+    ∷ []
+
+unfoldable pub tableRules : List (Sections → Answer)
+tableRules = (λ t. code3 (factsOf t)) ∷ (λ t. code5 (factsOf t)) ∷ (λ t. code6 (factsOf t)) ∷ (λ t. code8 (factsOf t)) ∷ []
+
+-- READ: 1 to 8. The table with its unused places zero; refused, a table of zeros
+pub record Got : Type 0 where
+  pub answer : Answer
+  pub table : Sections
+
+unfoldable pub readAnswer : List ℕ → Answer
+readAnswer b = firstOf bookRules nothing b
+
+unfoldable pub readOf : List ℕ → Got
+readOf b =
+    record {
+      answer = readAnswer b;
+      table = elim (isDone (readAnswer b)) [ true ↦ tableOf (sectionsOf b) | false ↦ emptyTable ];
+    }
+
+-- CHECK a book: 1 to 8, 9. The m bounds, zeros elsewhere; refused, all zeros
+pub record Checked : Type 0 where
+  pub answer : Answer
+  pub bounds : List ℕ
+
+unfoldable pub checkRules : List (List ℕ → Answer)
+checkRules = bookRules ++ ((λ b. code9 (said b)) ∷ [])
+
+unfoldable pub checkAnswer : List ℕ → Answer
+checkAnswer b = firstOf checkRules nothing b
+
+unfoldable pub boundsOf : Facts → List ℕ
+boundsOf f = padded mostFlows (listTo (bound f) (f .flows))
+
+unfoldable pub checkOf : List ℕ → Checked
+checkOf b =
+    record {
+      answer = checkAnswer b;
+      bounds = elim (isDone (checkAnswer b)) [ true ↦ boundsOf (said b) | false ↦ replicate mostFlows 0 ];
+    }
+
+-- WRITE: 3, 5, 6, 8 on the table, then 13. The book at the front of the lent buffer, and nothing beyond it touched; refused, nothing
+-- touched. The number is the book's length
+pub record Writing : Type 0 where
+  pub table : Sections
+  pub buffer : List ℕ
+
+pub record Written : Type 0 where
+  pub answer : Answer
+  pub buffer : List ℕ
+
+unfoldable pub writeAnswer : Writing → Answer
+writeAnswer =
+    firstOf (on (λ w. w .table) tableRules ++ ((λ w. code13 (length (bookOf (w .table))) (w .buffer)) ∷ []))
+    (λ w. length (bookOf (w .table)))
+
+unfoldable pub writeOf : Writing → Written
+writeOf w =
+    record {
+      answer = writeAnswer w;
+      buffer = elim (isDone (writeAnswer w)) [ true ↦ over (bookOf (w .table)) (w .buffer) | false ↦ w .buffer ];
+    }
+
+-- ADD at a place: 3, 5, 6, 8 on the old table; 14; 15; 6 and 8 on the new one; 9 on the new one. Refused, the table as handed in
+pub record Adding : Type 0 where
+  pub table : Sections
+  pub place : ℕ
+  pub flow : Flow
+  pub plan : List ℕ
+
+pub record Changed : Type 0 where
+  pub answer : Answer
+  pub table : Sections
+
+unfoldable pub recordOf : Flow → List ℕ
+recordOf w = twoBytes (w .id) ++ twoBytes (w .phase) ++ twoBytes (w .period) ++ twoBytes (w .deadline) ++ twoBytes (w .len)
+
+-- the old table's used places, with the newcomer's record and the L steps of its plan put in at the place
+unfoldable pub withFlow : Adding → Sections
+withFlow a =
+    let s : Sections = used (a .table) in
+    let before : ℕ = recordBytes * a .place in
+    let start : ℕ = stepBytes * planStart s (a .place) in
+    record {
+      nodes = s .nodes;
+      flows = suc (s .flows);
+      rows = s .rows;
+      records = take before (s .records) ++ recordOf (a .flow) ++ drop before (s .records);
+      steps = take start (s .steps) ++ take (stepBytes * a .flow .len) (a .plan) ++ drop start (s .steps);
+    }
+
+unfoldable pub addAnswer : Adding → Answer
+addAnswer =
+    firstOf
+    (on (λ a. a .table) tableRules
+    ++ ((λ a. code14 (factsOf (a .table)))
+    ∷ (λ a. code15Adding (factsOf (a .table)) (a .place))
+    ∷ (λ a. code6 (factsOf (withFlow a)))
+    ∷ (λ a. code8 (factsOf (withFlow a)))
+    ∷ (λ a. code9 (factsOf (withFlow a)))
+    ∷ []))
+    nothing
+
+unfoldable pub addOf : Adding → Changed
+addOf a =
+    record {
+      answer = addAnswer a;
+      table = elim (isDone (addAnswer a)) [ true ↦ tableOf (withFlow a) | false ↦ a .table ];
+    }
+
+-- REMOVE: 3, 5, 6, 8; 15. Refused, the table as handed in
+pub record Removing : Type 0 where
+  pub table : Sections
+  pub place : ℕ
+
+-- the old table's used places without the record and the steps of the flow at the place
+unfoldable pub withoutFlow : Removing → Sections
+withoutFlow r =
+    let s : Sections = used (r .table) in
+    let p : ℕ = r .place in
+    record {
+      nodes = s .nodes;
+      flows = pred (s .flows);
+      rows = s .rows;
+      records = take (recordBytes * p) (s .records) ++ drop (recordBytes * suc p) (s .records);
+      steps = take (stepBytes * planStart s p) (s .steps) ++ drop (stepBytes * planStart s (suc p)) (s .steps);
+    }
+
+unfoldable pub removeAnswer : Removing → Answer
+removeAnswer =
+    firstOf (on (λ r. r .table) tableRules ++ ((λ r. code15Removing (factsOf (r .table)) (r .place)) ∷ [])) nothing
+
+unfoldable pub removeOf : Removing → Changed
+removeOf r =
+    record {
+      answer = removeAnswer r;
+      table = elim (isDone (removeAnswer r)) [ true ↦ tableOf (withoutFlow r) | false ↦ r .table ];
+    }
+
+-- START: 1 to 8, 9, 13. Slot 0, each flow's byte equal to its L, unused places 0; bytes past 36 untouched; refused, nothing touched
+pub record Starting : Type 0 where
+  pub book : List ℕ
+  pub area : List ℕ
+
+pub record Started : Type 0 where
+  pub answer : Answer
+  pub area : List ℕ
+
+unfoldable pub startAnswer : Starting → Answer
+startAnswer = firstOf (on (λ s. s .book) checkRules ++ ((λ s. code13 areaBytes (s .area)) ∷ [])) nothing
+
+unfoldable pub startArea : Facts → List ℕ
+startArea f = areaOf (f .flows) (atStart f)
+
+unfoldable pub startOf : Starting → Started
+startOf s =
+    record {
+      answer = startAnswer s;
+      area = elim (isDone (startAnswer s)) [ true ↦ over (startArea (said (s .book))) (s .area) | false ↦ s .area ];
+    }
+
+-- ADVANCE by one slot: 1 to 8, 13, 10, 12, 11. The number is the count of grants; each grant in its own nine bytes of the lent
+-- buffer, later bytes as lent; refused, zero grants and both buffers unchanged
+pub record Advancing : Type 0 where
+  pub book : List ℕ
+  pub area : List ℕ
+  pub grants : List ℕ
+
+pub record Advanced : Type 0 where
+  pub answer : Answer
+  pub area : List ℕ
+  pub grants : List ℕ
+
+-- what the book says, the run that the area holds, and the flows granted in its slot
+unfoldable pub grantedIn : Advancing → List ℕ
+grantedIn a = granted (said (a .book)) (said (a .book) .phase) (stateIn (a .area))
+
+unfoldable pub advanceAnswer : Advancing → Answer
+advanceAnswer =
+    firstOf
+    (on (λ a. a .book) bookRules
+    ++ ((λ a. code13 areaBytes (a .area))
+    ∷ (λ a. code13 (grantBytes * said (a .book) .flows) (a .grants))
+    ∷ (λ a. code10 (said (a .book)) (stateIn (a .area)))
+    ∷ (λ a. code12 (stateIn (a .area)))
+    ∷ (λ a. code11 (said (a .book)) (stateIn (a .area)))
+    ∷ []))
+    (λ a. length (grantedIn a))
+
+unfoldable pub nextArea : Advancing → List ℕ
+nextArea a =
+    let f : Facts = said (a .book) in
+    areaOf (f .flows) (nextState f (f .phase) (stateIn (a .area)))
+
+unfoldable pub grantsIn : Advancing → List ℕ
+grantsIn a =
+    let f : Facts = said (a .book) in
+    grantsOf (grantOf f (f .phase) (stateIn (a .area))) (grantedIn a)
+
+unfoldable pub advanceOf : Advancing → Advanced
+advanceOf a =
+    record {
+      answer = advanceAnswer a;
+      area = elim (isDone (advanceAnswer a)) [ true ↦ over (nextArea a) (a .area) | false ↦ a .area ];
+      grants = elim (isDone (advanceAnswer a)) [ true ↦ over (grantsIn a) (a .grants) | false ↦ a .grants ];
+    }

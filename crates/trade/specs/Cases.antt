@@ -1,0 +1,151 @@
+-- The worked cases of document 01 that are to be proved, and lines of our own, in one table. The books stand here as bytes.
+-- Leans on Calls and all below it.
+use Prim.Native.Nat.{ℕ, zero, suc, _+_, _≤_, _<_}
+use mathlib.Core.Path.{_≡_}
+use mathlib.Core.Bool.{Bool, true, false}
+use mathlib.Core.List.{List, [], _∷_, _++_}
+use lib.Dec.{eqb}
+use lib.ListN.{length, getD, take, drop, set, replicate}
+use Rattle.trade.specs.Limits.{mostFlows, areaBytes, endOfClock}
+use Rattle.trade.specs.Bytes.{byte, fourBytes}
+use Rattle.trade.specs.Layout.{Sections, trailer, sectionsOf, bookOf, tableOf}
+use Rattle.trade.specs.Facts.{Facts}
+use Rattle.trade.specs.Answers.{done, refused}
+use Rattle.trade.specs.Conflict.{conflict}
+use Rattle.trade.specs.Interference.{matrix, worstPath, interference}
+use Rattle.trade.specs.Slot.{State, granted}
+use Rattle.trade.specs.Calls.{said, readOf, checkOf, writeOf, addOf, removeOf, startOf, advanceOf, Advanced}
+use Rattle.trade.specs.declared.answer.Answer.{Answer}
+use Rattle.trade.specs.declared.flow.Flow.{Flow}
+use Rattle.trade.specs.declared.node.Transmission.{Transmission}
+
+-- BOOK A: six nodes; x disturbs y when they differ by 1. Flow 7: phase 0, P 10, D 10, plan 0-1, 1-2, 2-3. Flow 9: phase 0, P 12, D 12,
+-- plan 5-4, 4-3, 3-2
+unfoldable pub bookA : List ℕ
+bookA =
+    0x02 ∷ 0x00 ∷ 0x00 ∷ 0x00 ∷ 0x00 ∷ 0x00 ∷ 0x00 ∷ 0x00
+    ∷ 0x05 ∷ 0x00 ∷ 0x00 ∷ 0x00 ∷ 0x00 ∷ 0x00 ∷ 0x00 ∷ 0x00
+    ∷ 0x0a ∷ 0x00 ∷ 0x00 ∷ 0x00 ∷ 0x00 ∷ 0x00 ∷ 0x00 ∷ 0x00
+    ∷ 0x14 ∷ 0x00 ∷ 0x00 ∷ 0x00 ∷ 0x00 ∷ 0x00 ∷ 0x00 ∷ 0x00
+    ∷ 0x28 ∷ 0x00 ∷ 0x00 ∷ 0x00 ∷ 0x00 ∷ 0x00 ∷ 0x00 ∷ 0x00
+    ∷ 0x10 ∷ 0x00 ∷ 0x00 ∷ 0x00 ∷ 0x00 ∷ 0x00 ∷ 0x00 ∷ 0x00
+    ∷ 0x00 ∷ 0x07 ∷ 0x00 ∷ 0x00 ∷ 0x00 ∷ 0x0a ∷ 0x00 ∷ 0x0a ∷ 0x00 ∷ 0x03
+    ∷ 0x00 ∷ 0x09 ∷ 0x00 ∷ 0x00 ∷ 0x00 ∷ 0x0c ∷ 0x00 ∷ 0x0c ∷ 0x00 ∷ 0x03
+    ∷ 0x00 ∷ 0x01 ∷ 0x01 ∷ 0x02 ∷ 0x02 ∷ 0x03 ∷ 0x05 ∷ 0x04 ∷ 0x04 ∷ 0x03 ∷ 0x03 ∷ 0x02
+    ∷ 0x00 ∷ 0x5a ∷ 0x00 ∷ 0x2a ∷ 0x00 ∷ 0x16 ∷ 0x06 ∷ 0x02 ∷ 0x46 ∷ 0x42
+    ∷ []
+
+-- BOOK B: five nodes, neighbours disturb. Flow 1: phase 0, P 20, D 5, plan 0-1 five times. Flow 2: phase 0, P 10, D 10, plan 1-2.
+-- Flow 3: phase 5, P 20, D 7, plan 3-4 five times
+unfoldable pub bookB : List ℕ
+bookB =
+    0x02 ∷ 0x00 ∷ 0x00 ∷ 0x00 ∷ 0x00 ∷ 0x00 ∷ 0x00 ∷ 0x00
+    ∷ 0x05 ∷ 0x00 ∷ 0x00 ∷ 0x00 ∷ 0x00 ∷ 0x00 ∷ 0x00 ∷ 0x00
+    ∷ 0x0a ∷ 0x00 ∷ 0x00 ∷ 0x00 ∷ 0x00 ∷ 0x00 ∷ 0x00 ∷ 0x00
+    ∷ 0x14 ∷ 0x00 ∷ 0x00 ∷ 0x00 ∷ 0x00 ∷ 0x00 ∷ 0x00 ∷ 0x00
+    ∷ 0x08 ∷ 0x00 ∷ 0x00 ∷ 0x00 ∷ 0x00 ∷ 0x00 ∷ 0x00 ∷ 0x00
+    ∷ 0x00 ∷ 0x01 ∷ 0x00 ∷ 0x00 ∷ 0x00 ∷ 0x14 ∷ 0x00 ∷ 0x05 ∷ 0x00 ∷ 0x05
+    ∷ 0x00 ∷ 0x02 ∷ 0x00 ∷ 0x00 ∷ 0x00 ∷ 0x0a ∷ 0x00 ∷ 0x0a ∷ 0x00 ∷ 0x01
+    ∷ 0x00 ∷ 0x03 ∷ 0x00 ∷ 0x05 ∷ 0x00 ∷ 0x14 ∷ 0x00 ∷ 0x07 ∷ 0x00 ∷ 0x05
+    ∷ 0x00 ∷ 0x01 ∷ 0x00 ∷ 0x01 ∷ 0x00 ∷ 0x01 ∷ 0x00 ∷ 0x01 ∷ 0x00 ∷ 0x01 ∷ 0x01 ∷ 0x02 ∷ 0x03 ∷ 0x04 ∷ 0x03 ∷ 0x04 ∷ 0x03 ∷ 0x04 ∷ 0x03 ∷ 0x04 ∷ 0x03 ∷ 0x04
+    ∷ 0x00 ∷ 0x66 ∷ 0x00 ∷ 0x3e ∷ 0x00 ∷ 0x20 ∷ 0x05 ∷ 0x03 ∷ 0x46 ∷ 0x42
+    ∷ []
+
+-- one node, no flows
+unfoldable pub bookOfNone : List ℕ
+bookOfNone =
+    0x00 ∷ 0x00 ∷ 0x00 ∷ 0x00 ∷ 0x00 ∷ 0x00 ∷ 0x00 ∷ 0x00
+    ∷ 0x00 ∷ 0x12 ∷ 0x00 ∷ 0x0a ∷ 0x00 ∷ 0x0a ∷ 0x01 ∷ 0x00 ∷ 0x46 ∷ 0x42
+    ∷ []
+
+-- a book with the low byte of the deadline of one record changed
+unfoldable pub deadlineAt : ℕ → ℕ → List ℕ → List ℕ
+deadlineAt place d book = set book place d
+
+-- flow 7 and flow 9 are records 0 and 1 of book A; flow 3 is record 2 of book B
+abbrev pub placeOf7 : ℕ
+placeOf7 = 55
+
+abbrev pub placeOf9 : ℕ
+placeOf9 = 65
+
+abbrev pub placeOf3 : ℕ
+placeOf3 = 67
+
+-- what check says of a book with so many flows, by its bounds
+unfoldable pub bounds : ℕ → List ℕ → List ℕ
+bounds flows book = take flows (checkOf book .bounds)
+
+-- the area after k slots of a book from start, and what the next slot leaves, in memory that was lent full of 0xee
+unfoldable pub lent : ℕ → List ℕ
+lent count = replicate count 0xee
+
+unfoldable pub areaAfter : List ℕ → ℕ → List ℕ
+areaAfter book zero = startOf (record { book = book; area = lent areaBytes }) .area
+areaAfter book (suc k) = advanceOf (record { book = book; area = areaAfter book k; grants = lent 18 }) .area
+
+unfoldable pub slotOf : List ℕ → ℕ → Advanced
+slotOf book k = advanceOf (record { book = book; area = areaAfter book k; grants = lent 18 })
+
+-- A to B
+abbrev pub sends : ℕ → ℕ → Transmission
+sends a b = record { sender = record { 0 = a }; receiver = record { 0 = b } }
+
+-- a disturbance by one node of one other, and by none of any
+unfoldable pub only : ℕ → ℕ → ℕ → ℕ → Bool
+only a b x y = elim (eqb a x) [ true ↦ eqb b y | false ↦ false ]
+
+unfoldable pub noneDisturbs : ℕ → ℕ → Bool
+noneDisturbs x y = false
+
+-- the bare matrix of the slides: six steps of h; l's four rows have marks at columns 4, 5; 1 to 5; 1 to 4; 0
+unfoldable pub bareRows : List (List ℕ)
+bareRows = (0 ∷ 0 ∷ 0 ∷ 0 ∷ 1 ∷ 1 ∷ []) ∷ (0 ∷ 1 ∷ 1 ∷ 1 ∷ 1 ∷ 1 ∷ []) ∷ (0 ∷ 1 ∷ 1 ∷ 1 ∷ 1 ∷ 0 ∷ []) ∷ (1 ∷ 0 ∷ 0 ∷ 0 ∷ 0 ∷ 0 ∷ []) ∷ []
+
+unfoldable pub bare : ℕ → ℕ → Bool
+bare i j = eqb (getD (getD bareRows i []) j 0) 1
+
+-- the marks of three rows and three columns, row by row
+unfoldable pub threeByThree : (ℕ → ℕ → Bool) → List Bool
+threeByThree m = m 0 0 ∷ m 0 1 ∷ m 0 2 ∷ m 1 0 ∷ m 1 1 ∷ m 1 2 ∷ m 2 0 ∷ m 2 1 ∷ m 2 2 ∷ []
+
+pub record Cases : Type 0 where
+  -- 1. the trailer of book A, which is 90 bytes long
+  pub case1 : trailer bookA ≡ 0x00 ∷ 0x5a ∷ 0x00 ∷ 0x2a ∷ 0x00 ∷ 0x16 ∷ 0x06 ∷ 0x02 ∷ 0x46 ∷ 0x42 ∷ []
+  pub case1-length : length bookA ≡ 90
+  -- 2. I(9,7) = 2; the conflicts are 4-3 with 2-3, 3-2 with 1-2, 3-2 with 2-3
+  pub case2 : interference (said bookA) 1 0 ≡ 2
+  pub case2-conflicts : threeByThree (matrix (said bookA) 1 0) ≡ false ∷ false ∷ false ∷ false ∷ false ∷ true ∷ false ∷ true ∷ true ∷ []
+  -- 3. bounds 3 and 7, zeros elsewhere
+  pub case3 : checkOf bookA ≡ record { answer = done 0; bounds = 3 ∷ 7 ∷ replicate 30 0 }
+  -- 4. D of flow 9 set to 7: accepted; set to 6: code 9, flow 1, and all zeros
+  pub case4-accepted : checkOf (deadlineAt placeOf9 7 bookA) .answer ≡ done 0
+  pub case4-refused : checkOf (deadlineAt placeOf9 6 bookA) ≡ record { answer = refused 9 1; bounds = replicate mostFlows 0 }
+  -- 5. slot 2 grants flow 7 only (its step 2, 2-3); slot 3 grants flow 9, step 2 (3-2)
+  pub case5-slot2 :
+      slotOf bookA 2
+      ≡ record {
+        answer = done 1;
+        area = 0 ∷ 0 ∷ 0 ∷ 3 ∷ 3 ∷ 2 ∷ replicate 30 0;
+        grants = 0 ∷ 7 ∷ 0 ∷ 0 ∷ 0 ∷ 0 ∷ 2 ∷ 2 ∷ 3 ∷ lent 9;
+      }
+  pub case5-slot3 :
+      slotOf bookA 3
+      ≡ record {
+        answer = done 1;
+        area = 0 ∷ 0 ∷ 0 ∷ 4 ∷ 3 ∷ 3 ∷ replicate 30 0;
+        grants = 0 ∷ 9 ∷ 0 ∷ 0 ∷ 0 ∷ 0 ∷ 2 ∷ 3 ∷ 2 ∷ lent 9;
+      }
+  -- 6. bounds 5, 6, 7
+  pub case6 : checkOf bookB ≡ record { answer = done 0; bounds = 5 ∷ 6 ∷ 7 ∷ replicate 29 0 }
+  -- 7. D of flow 3 set to 6: code 9, flow 2
+  pub case7 : checkOf (deadlineAt placeOf3 6 bookB) .answer ≡ refused 9 2
+  -- 9. the bare matrix: I = 5
+  pub case9 : worstPath bare 4 6 ≡ 5
+  -- 10. 0-1 and 2-3: free with no disturbance; in conflict if 2 disturbs 1
+  pub case10-free : conflict noneDisturbs (sends 0 1) (sends 2 3) ≡ false
+  pub case10-conflict : conflict (only 2 1) (sends 0 1) (sends 2 3) ≡ true
+  -- 11. one node, no flows: 18 bytes, accepted, every slot empty
+  pub case11-length : length bookOfNone ≡ 18
+  pub case11-accepted : checkOf bookOfNone .answer ≡ done 0
+  pub case11-empty : (s : State) → granted (said bookOfNone) (said bookOfNone .phase) s ≡ []

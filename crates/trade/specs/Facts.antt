@@ -1,0 +1,56 @@
+-- What a book or a table says, as functions of indices. The rules below read nothing else. Leans on Layout.
+use Prim.Native.Nat.{ℕ, _+_, _*_, _/_, _%_}
+use mathlib.Core.Bool.{Bool}
+use Rattle.trade.specs.Limits.{rowBytes, stepBytes}
+use Rattle.trade.specs.First.{sumTo}
+use Rattle.trade.specs.Bytes.{byte, bit}
+use Rattle.trade.specs.Layout.{Sections, field, planLength}
+use Rattle.trade.specs.declared.node.Node.{Node}
+use Rattle.trade.specs.declared.node.Transmission.{Transmission}
+
+-- n and m; whether node x disturbs node y; each flow's id, phase, period P, deadline D and plan length L; and the steps of all
+-- plans in flow order, counted from 0
+pub record Facts : Type 0 where
+  pub nodes : ℕ
+  pub flows : ℕ
+  pub disturbs : ℕ → ℕ → Bool
+  pub id : ℕ → ℕ
+  pub phase : ℕ → ℕ
+  pub period : ℕ → ℕ
+  pub deadline : ℕ → ℕ
+  pub len : ℕ → ℕ
+  pub step : ℕ → Transmission
+
+-- in row x, node y is bit y mod 8 of byte y div 8; set means that x disturbs y
+unfoldable pub disturbsIn : Sections → ℕ → ℕ → Bool
+disturbsIn s x y = bit (byte (s .rows) (rowBytes * x + y / 8)) (y % 8)
+
+-- a step is a sender and a receiver, a byte each
+unfoldable pub stepIn : Sections → ℕ → Transmission
+stepIn s k =
+    record {
+      sender = record { 0 = byte (s .steps) (stepBytes * k) };
+      receiver = record { 0 = byte (s .steps) (stepBytes * k + 1) };
+    }
+
+unfoldable pub factsOf : Sections → Facts
+factsOf s =
+    record {
+      nodes = s .nodes;
+      flows = s .flows;
+      disturbs = disturbsIn s;
+      id = λ i. field (s .records) i 0;
+      phase = λ i. field (s .records) i 1;
+      period = λ i. field (s .records) i 2;
+      deadline = λ i. field (s .records) i 3;
+      len = planLength s;
+      step = stepIn s;
+    }
+
+-- where plan i starts among the steps of all plans
+unfoldable pub firstStep : Facts → ℕ → ℕ
+firstStep f i = sumTo (f .len) i
+
+-- step j of plan i
+unfoldable pub stepOf : Facts → ℕ → ℕ → Transmission
+stepOf f i j = f .step (firstStep f i + j)

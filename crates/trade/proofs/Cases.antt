@@ -1,26 +1,46 @@
 -- The table of proved cases holds: each line is computed from the definitions.
 -- Assumes nothing.
-use mathlib.Core.Path.{refl}
+use Prim.Native.Nat.{ℕ}
+use mathlib.Core.Path.{_≡_, refl, ap}
+use mathlib.Core.Bool.{Bool, true, false}
+use mathlib.Core.List.{List}
+use Rattle.trade.specs.declared.answer.Answer.{Answer}
+use Rattle.trade.proofs.Calls.{advance-done}
 use Rattle.trade.specs.First.{firstFrom, first, some, sumTo, largestFrom, listFrom, listTo}
 use Rattle.trade.specs.Bytes.{word, long, twoBytes, fourBytes, bit, part, padded, over}
-use Rattle.trade.specs.Layout.{trailer, rowsDistance, recordsDistance, stepsDistance, nodeCount, flowCount, sectionsOf, field, planLength, planStart, allSteps, stepsDistanceOf, recordsDistanceOf, rowsDistanceOf, trailerOf, used, bookOf, tableOf, emptyTable}
-use Rattle.trade.specs.Facts.{disturbsIn, stepIn, factsOf, firstStep, stepOf}
+use Rattle.trade.specs.Layout.{trailer, rowsDistance, recordsDistance, stepsDistance, nodeCount, flowCount, sectionsOf, field}
+use Rattle.trade.specs.Facts.{disturbsIn, stepIn, factsOf, said, firstStep, allSteps, stepOf}
+use Rattle.trade.specs.Table.{stepsDistanceOf, recordsDistanceOf, rowsDistanceOf, trailerOf, used, bookOf, tableOf, emptyTable}
 use Rattle.trade.specs.Answers.{isDone, given, givenFirst, firstOf, on}
 use Rattle.trade.specs.Conflict.{meet, conflict, conflictsWith, conflictFree}
-use Rattle.trade.specs.Interference.{one, worst, worstPath, matrix, interference}
-use Rattle.trade.specs.Bound.{ceil, instances, demand, admissible, boundBy, bound, boundless, accepted}
+use Rattle.trade.specs.Interference.{one, countOf, worst, worstPath, matrix, interference}
+use Rattle.trade.specs.Bound.{ceil, instances, slotsNeeded, admissible, boundBy, bound, boundless, accepted}
 use Rattle.trade.specs.Slot.{atStart, released, instanceAt, doneNow, unfinished, nextStep, going, greedy, granted, among, nextState, runTo, grantOf, grantsOf}
 use Rattle.trade.specs.Area.{stateIn, areaOf}
 use Rattle.trade.specs.Codes.{outside, code1, code2, code3, code4, badRow, code5, badRecord, code6, code7, firstOfPlan, repeats, goesOn, badStep, code8, code14, code15Adding, code15Removing, code9, code13, badPlace, code10, code12, overrun, code11}
-use Rattle.trade.specs.Calls.{said, bookRules, tableRules, readAnswer, readOf, checkRules, checkAnswer, boundsOf, checkOf, writeAnswer, writeOf, recordOf, withFlow, addAnswer, addOf, withoutFlow, removeAnswer, removeOf, startAnswer, startArea, startOf, grantedIn, advanceAnswer, nextArea, grantsIn, advanceOf}
-use Rattle.trade.specs.Cases.{bookA, bookB, bookOfNone, deadlineAt, bounds, lent, areaAfter, slotOf, only, noneDisturbs, bareRows, bare, threeByThree, Cases}
+use Rattle.trade.specs.Calls.{bookRules, tableRules, readAnswer, readOf, checkRules, checkAnswer, boundsOf, checkOf, writeAnswer, writeOf, recordOf, withFlow, addAnswer, addOf, withoutFlow, removeAnswer, removeOf, startAnswer, startArea, startOf, flowsGranted, advanceAnswer, nextArea, grantsIn, advanceOf}
+use Rattle.trade.specs.Cases.{bookA, bookB, bookOfNone, deadlineAt, lent, grantRoom, areaAfter, slotOf, only, noneDisturbs, bareRows, bare, threeByThree, noMark, noNodes, badDistance, ownBit, noId, longerPlan, jump, tooTight, checks, starts, advances, areaWith, tableA, fullTable, adds, removes, writes, withRecords, withSteps, Cases}
+
+-- with no flows an advance that is done has no grant to count or to write
+every-slot-empty :
+    (area grants : List ℕ)
+    → advanceOf (record { book = bookOfNone; area = area; grants = grants }) .answer .code ≡ 0
+    → (advanceOf (record { book = bookOfNone; area = area; grants = grants }) .answer .number ≡ 0)
+    × (advanceOf (record { book = bookOfNone; area = area; grants = grants }) .grants ≡ grants)
+unfolding firstFrom first some sumTo largestFrom listFrom listTo word long twoBytes fourBytes bit part padded over trailer rowsDistance recordsDistance stepsDistance nodeCount flowCount sectionsOf field disturbsIn stepIn factsOf said firstStep allSteps stepOf stepsDistanceOf recordsDistanceOf rowsDistanceOf trailerOf used bookOf tableOf emptyTable isDone given givenFirst firstOf on meet conflict conflictsWith conflictFree one countOf worst worstPath matrix interference ceil instances slotsNeeded admissible boundBy bound boundless accepted atStart released instanceAt doneNow unfinished nextStep going greedy granted among nextState runTo grantOf grantsOf stateIn areaOf outside code1 code2 code3 code4 badRow code5 badRecord code6 code7 firstOfPlan repeats goesOn badStep code8 code14 code15Adding code15Removing code9 code13 badPlace code10 code12 overrun code11 bookRules tableRules readAnswer readOf checkRules checkAnswer boundsOf checkOf writeAnswer writeOf recordOf withFlow addAnswer addOf withoutFlow removeAnswer removeOf startAnswer startArea startOf flowsGranted advanceAnswer nextArea grantsIn advanceOf bookA bookB bookOfNone deadlineAt lent grantRoom areaAfter slotOf only noneDisturbs bareRows bare threeByThree noMark noNodes badDistance ownBit noId longerPlan jump tooTight checks starts advances areaWith tableA fullTable adds removes writes withRecords withSteps
+every-slot-empty area grants e = (ap (λ (r : Answer). r .number) (advance-done (record { book = bookOfNone; area = area; grants = grants }) e), either (isDone (advanceAnswer (record { book = bookOfNone; area = area; grants = grants }))))
+  where
+    either : (b : Bool) → _≡_ {A = List ℕ} (elim b [ true ↦ over (grantsIn (record { book = bookOfNone; area = area; grants = grants })) grants | false ↦ grants ]) grants
+    either true = refl
+    either false = refl
 
 pub cases-hold : Cases
-unfolding firstFrom first some sumTo largestFrom listFrom listTo word long twoBytes fourBytes bit part padded over trailer rowsDistance recordsDistance stepsDistance nodeCount flowCount sectionsOf field planLength planStart allSteps stepsDistanceOf recordsDistanceOf rowsDistanceOf trailerOf used bookOf tableOf emptyTable disturbsIn stepIn factsOf firstStep stepOf isDone given givenFirst firstOf on meet conflict conflictsWith conflictFree one worst worstPath matrix interference ceil instances demand admissible boundBy bound boundless accepted atStart released instanceAt doneNow unfinished nextStep going greedy granted among nextState runTo grantOf grantsOf stateIn areaOf outside code1 code2 code3 code4 badRow code5 badRecord code6 code7 firstOfPlan repeats goesOn badStep code8 code14 code15Adding code15Removing code9 code13 badPlace code10 code12 overrun code11 said bookRules tableRules readAnswer readOf checkRules checkAnswer boundsOf checkOf writeAnswer writeOf recordOf withFlow addAnswer addOf withoutFlow removeAnswer removeOf startAnswer startArea startOf grantedIn advanceAnswer nextArea grantsIn advanceOf bookA bookB bookOfNone deadlineAt bounds lent areaAfter slotOf only noneDisturbs bareRows bare threeByThree
+unfolding firstFrom first some sumTo largestFrom listFrom listTo word long twoBytes fourBytes bit part padded over trailer rowsDistance recordsDistance stepsDistance nodeCount flowCount sectionsOf field disturbsIn stepIn factsOf said firstStep allSteps stepOf stepsDistanceOf recordsDistanceOf rowsDistanceOf trailerOf used bookOf tableOf emptyTable isDone given givenFirst firstOf on meet conflict conflictsWith conflictFree one countOf worst worstPath matrix interference ceil instances slotsNeeded admissible boundBy bound boundless accepted atStart released instanceAt doneNow unfinished nextStep going greedy granted among nextState runTo grantOf grantsOf stateIn areaOf outside code1 code2 code3 code4 badRow code5 badRecord code6 code7 firstOfPlan repeats goesOn badStep code8 code14 code15Adding code15Removing code9 code13 badPlace code10 code12 overrun code11 bookRules tableRules readAnswer readOf checkRules checkAnswer boundsOf checkOf writeAnswer writeOf recordOf withFlow addAnswer addOf withoutFlow removeAnswer removeOf startAnswer startArea startOf flowsGranted advanceAnswer nextArea grantsIn advanceOf bookA bookB bookOfNone deadlineAt lent grantRoom areaAfter slotOf only noneDisturbs bareRows bare threeByThree noMark noNodes badDistance ownBit noId longerPlan jump tooTight checks starts advances areaWith tableA fullTable adds removes writes withRecords withSteps
 cases-hold =
     record {
       case1 = refl;
       case1-length = refl;
+      case1-written = refl;
       case2 = refl;
       case2-conflicts = refl;
       case3 = refl;
@@ -35,5 +55,38 @@ cases-hold =
       case10-conflict = refl;
       case11-length = refl;
       case11-accepted = refl;
-      case11-empty = λ s. refl;
+      case11-empty = λ area grants e. every-slot-empty area grants e;
+      one-way = refl;
+      other-way = refl;
+      tighter-carry = refl;
+      later-slot = refl;
+      order-1-2 = refl;
+      order-2-3 = refl;
+      order-3-4 = refl;
+      order-4-5 = refl;
+      order-5-6 = refl;
+      order-6-7 = refl;
+      order-7-8 = refl;
+      order-8-9 = refl;
+      order-9-13 = refl;
+      order-13 = refl;
+      order-8-13 = refl;
+      order-write-13 = refl;
+      order-13-10 = refl;
+      order-10-slot = refl;
+      order-10-12 = refl;
+      order-12-11 = refl;
+      order-11 = refl;
+      order-8-14 = refl;
+      order-14-15 = refl;
+      order-15-6 = refl;
+      order-6-8 = refl;
+      order-later-id = refl;
+      order-8-9-adding = refl;
+      order-8-adding = refl;
+      order-9-adding = refl;
+      order-added = refl;
+      order-6-15 = refl;
+      order-15 = refl;
+      order-removed = refl;
     }

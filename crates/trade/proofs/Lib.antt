@@ -1,2 +1,10 @@
--- Laws about the definitions of specs/.
+-- Laws about the definitions of specs/, in files named after them.
+pub mod First
+pub mod Sums
+pub mod Conflict
+pub mod Interference
+pub mod Bound
+pub mod Slot
+pub mod Answers
+pub mod Calls
 pub mod Cases

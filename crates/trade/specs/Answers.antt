@@ -1,4 +1,4 @@
--- How a call answers: a code and the number that goes with it. Leans on Limits.
+-- How a call answers: a code and the number that goes with it. Leans on Limits and First.
 use Prim.Native.Nat.{ℕ, _+_, _*_}
 use mathlib.Core.Bool.{Bool, true, false, cond}
 use mathlib.Core.List.{List, [], _∷_, _++_, map}
@@ -38,8 +38,8 @@ unfoldable pub on : {A B : Type 0} → (B → A) → List (A → Answer) → Lis
 on look rules = map (λ rule. λ x. rule (look x)) rules
 
 -- success has the number 0 where none is named
-abbrev pub nothing : {A : Type 0} → A → ℕ
-nothing x = 0
+abbrev pub noNumber : {A : Type 0} → A → ℕ
+noNumber x = 0
 
 -- the one number that answers C
 abbrev pub packedOf : Answer → ℕ

@@ -1,26 +1,22 @@
 -- The seven calls: for all that a call is handed, its answer, what it returns beside it, and what it leaves in lent memory, done or
 -- refused. Leans on Codes and all below it.
 use Prim.Native.Nat.{ℕ, suc, pred, _+_, _-_, _*_}
-use mathlib.Core.Bool.{true, false, cond}
+use mathlib.Core.Bool.{true, false}
 use mathlib.Core.List.{List, [], _∷_, _++_}
-use lib.Dec.{ltb}
 use lib.ListN.{length, take, drop, replicate}
 use Rattle.trade.specs.Limits.{mostFlows, recordBytes, stepBytes, areaBytes, grantBytes}
 use Rattle.trade.specs.First.{listTo}
 use Rattle.trade.specs.Bytes.{twoBytes, part, over, padded}
-use Rattle.trade.specs.Layout.{Sections, sectionsOf, planStart, allSteps, used, bookOf, tableOf, emptyTable}
-use Rattle.trade.specs.Facts.{Facts, factsOf}
-use Rattle.trade.specs.Answers.{isDone, firstOf, on, nothing}
+use Rattle.trade.specs.Layout.{Sections, sectionsOf}
+use Rattle.trade.specs.Facts.{Facts, factsOf, said, firstStep}
+use Rattle.trade.specs.Table.{used, bookOf, tableOf, emptyTable}
+use Rattle.trade.specs.Answers.{isDone, firstOf, on, noNumber}
 use Rattle.trade.specs.Bound.{bound}
 use Rattle.trade.specs.Slot.{State, atStart, granted, grantOf, grantsOf, nextState}
 use Rattle.trade.specs.Area.{stateIn, areaOf}
 use Rattle.trade.specs.Codes.{code1, code2, code3, code4, code5, code6, code7, code8, code9, code10, code11, code12, code13, code14, code15Adding, code15Removing}
 use Rattle.trade.specs.declared.answer.Answer.{Answer}
 use Rattle.trade.specs.declared.flow.Flow.{Flow}
-
--- what a slice says, and what a table says
-unfoldable pub said : List ℕ → Facts
-said slice = factsOf (sectionsOf slice)
 
 -- the rules that a book has to pass, 1 to 8, and a table, 3, 5, 6 and 8
 unfoldable pub bookRules : List (List ℕ → Answer)
@@ -44,7 +40,7 @@ pub record Got : Type 0 where
   pub table : Sections
 
 unfoldable pub readAnswer : List ℕ → Answer
-readAnswer b = firstOf bookRules nothing b
+readAnswer b = firstOf bookRules noNumber b
 
 unfoldable pub readOf : List ℕ → Got
 readOf b =
@@ -62,7 +58,7 @@ unfoldable pub checkRules : List (List ℕ → Answer)
 checkRules = bookRules ++ ((λ b. code9 (said b)) ∷ [])
 
 unfoldable pub checkAnswer : List ℕ → Answer
-checkAnswer b = firstOf checkRules nothing b
+checkAnswer b = firstOf checkRules noNumber b
 
 unfoldable pub boundsOf : Facts → List ℕ
 boundsOf f = padded mostFlows (listTo (bound f) (f .flows))
@@ -96,7 +92,8 @@ writeOf w =
       buffer = elim (isDone (writeAnswer w)) [ true ↦ over (bookOf (w .table)) (w .buffer) | false ↦ w .buffer ];
     }
 
--- ADD at a place: 3, 5, 6, 8 on the old table; 14; 15; 6 and 8 on the new one; 9 on the new one. Refused, the table as handed in
+-- ADD at a place: 3, 5, 6, 8 on the old table; 14; 15; 6 and 8 on the new one; 9 on the new one. Refused, the table as handed in.
+-- The newcomer is a record, whose L counts, and the bytes of 32 step places, of which those past L are ignored
 pub record Adding : Type 0 where
   pub table : Sections
   pub place : ℕ
@@ -115,7 +112,7 @@ unfoldable pub withFlow : Adding → Sections
 withFlow a =
     let s : Sections = used (a .table) in
     let before : ℕ = recordBytes * a .place in
-    let start : ℕ = stepBytes * planStart s (a .place) in
+    let start : ℕ = stepBytes * firstStep (factsOf s) (a .place) in
     record {
       nodes = s .nodes;
       flows = suc (s .flows);
@@ -134,7 +131,7 @@ addAnswer =
     ∷ (λ a. code8 (factsOf (withFlow a)))
     ∷ (λ a. code9 (factsOf (withFlow a)))
     ∷ []))
-    nothing
+    noNumber
 
 unfoldable pub addOf : Adding → Changed
 addOf a =
@@ -158,12 +155,12 @@ withoutFlow r =
       flows = pred (s .flows);
       rows = s .rows;
       records = take (recordBytes * p) (s .records) ++ drop (recordBytes * suc p) (s .records);
-      steps = take (stepBytes * planStart s p) (s .steps) ++ drop (stepBytes * planStart s (suc p)) (s .steps);
+      steps = take (stepBytes * firstStep (factsOf s) p) (s .steps) ++ drop (stepBytes * firstStep (factsOf s) (suc p)) (s .steps);
     }
 
 unfoldable pub removeAnswer : Removing → Answer
 removeAnswer =
-    firstOf (on (λ r. r .table) tableRules ++ ((λ r. code15Removing (factsOf (r .table)) (r .place)) ∷ [])) nothing
+    firstOf (on (λ r. r .table) tableRules ++ ((λ r. code15Removing (factsOf (r .table)) (r .place)) ∷ [])) noNumber
 
 unfoldable pub removeOf : Removing → Changed
 removeOf r =
@@ -182,7 +179,7 @@ pub record Started : Type 0 where
   pub area : List ℕ
 
 unfoldable pub startAnswer : Starting → Answer
-startAnswer = firstOf (on (λ s. s .book) checkRules ++ ((λ s. code13 areaBytes (s .area)) ∷ [])) nothing
+startAnswer = firstOf (on (λ s. s .book) checkRules ++ ((λ s. code13 areaBytes (s .area)) ∷ [])) noNumber
 
 unfoldable pub startArea : Facts → List ℕ
 startArea f = areaOf (f .flows) (atStart f)
@@ -207,8 +204,8 @@ pub record Advanced : Type 0 where
   pub grants : List ℕ
 
 -- what the book says, the run that the area holds, and the flows granted in its slot
-unfoldable pub grantedIn : Advancing → List ℕ
-grantedIn a = granted (said (a .book)) (said (a .book) .phase) (stateIn (a .area))
+unfoldable pub flowsGranted : Advancing → List ℕ
+flowsGranted a = granted (said (a .book)) (said (a .book) .phase) (stateIn (a .area))
 
 unfoldable pub advanceAnswer : Advancing → Answer
 advanceAnswer =
@@ -220,7 +217,7 @@ advanceAnswer =
     ∷ (λ a. code12 (stateIn (a .area)))
     ∷ (λ a. code11 (said (a .book)) (stateIn (a .area)))
     ∷ []))
-    (λ a. length (grantedIn a))
+    (λ a. length (flowsGranted a))
 
 unfoldable pub nextArea : Advancing → List ℕ
 nextArea a =
@@ -230,7 +227,7 @@ nextArea a =
 unfoldable pub grantsIn : Advancing → List ℕ
 grantsIn a =
     let f : Facts = said (a .book) in
-    grantsOf (grantOf f (f .phase) (stateIn (a .area))) (grantedIn a)
+    grantsOf (grantOf f (f .phase) (stateIn (a .area))) (flowsGranted a)
 
 unfoldable pub advanceOf : Advancing → Advanced
 advanceOf a =

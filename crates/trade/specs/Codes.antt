@@ -1,14 +1,15 @@
--- Codes 1 to 15: when each is given, and with which number. Leans on Layout, Facts, Bound, Slot and Area.
+-- Codes 1 to 15: when each is given, and with which number. Leans on Layout, Facts, Table, Answers, Bound and Slot.
 use Prim.Native.Nat.{ℕ, _+_, _-_, _*_, _%_}
 use mathlib.Core.Bool.{Bool, cond, not, _&&_, _||_}
 use mathlib.Core.List.{List}
 use lib.Dec.{eqb, leb, ltb}
 use lib.ListN.{length}
-use Rattle.trade.specs.Limits.{mostNodes, mostFlows, mostSteps, mostId, mostPhase, mostPeriod, endOfClock, rowBytes, recordBytes, trailerBytes, areaBytes, grantBytes}
+use Rattle.trade.specs.Limits.{mostNodes, mostFlows, mostSteps, mostId, mostPhase, mostPeriod, endOfClock, rowBytes, recordBytes, trailerBytes, mark}
 use Rattle.trade.specs.First.{some}
 use Rattle.trade.specs.Bytes.{byte}
-use Rattle.trade.specs.Layout.{Sections, trailer, mark, rowsDistance, recordsDistance, stepsDistance, nodeCount, flowCount, sectionsOf, stepsDistanceOf}
-use Rattle.trade.specs.Facts.{Facts, firstStep}
+use Rattle.trade.specs.Layout.{trailer, rowsDistance, recordsDistance, stepsDistance, nodeCount, flowCount, sectionsOf}
+use Rattle.trade.specs.Table.{stepsDistanceOf}
+use Rattle.trade.specs.Facts.{Facts, firstStep, allSteps}
 use Rattle.trade.specs.Answers.{refused, given, givenFirst}
 use Rattle.trade.specs.Bound.{boundless}
 use Rattle.trade.specs.Slot.{State, released}
@@ -45,7 +46,7 @@ code4 slice =
 
 -- 5: a row has its own bit or a bit at or above n; the first such row
 unfoldable pub badRow : Facts → ℕ → Bool
-badRow f x = some (λ y. f .disturbs x y && (eqb y x || leb (f .nodes) y)) mostNodes
+badRow f x = some (λ y. f .disturbs x y && (eqb y x || leb (f .nodes) y)) (8 * rowBytes)
 
 unfoldable pub code5 : Facts → Answer
 code5 f = givenFirst 5 (badRow f) (f .nodes)
@@ -88,7 +89,7 @@ badStep f k =
     || not (firstOfPlan f k) && not (repeats t before || goesOn t before)
 
 unfoldable pub code8 : Facts → Answer
-code8 f = givenFirst 8 (badStep f) (firstStep f (f .flows))
+code8 f = givenFirst 8 (badStep f) (allSteps f)
 
 -- 14: adding when m is 32
 unfoldable pub code14 : Facts → Answer

@@ -4,15 +4,16 @@ use mathlib.Core.Path.{_≡_}
 use mathlib.Core.Logic.{_↔_}
 use mathlib.Core.Bool.{false}
 use mathlib.Core.List.{List}
-use lib.ListN.{length}
-use Rattle.trade.specs.Limits.{endOfClock, areaBytes, grantBytes}
+use lib.ListN.{length, getD, take, replicate}
+use Rattle.trade.specs.Limits.{mostFlows, endOfClock, areaBytes, grantBytes}
 use Rattle.trade.specs.Bytes.{byte, word, long, over}
-use Rattle.trade.specs.Layout.{Sections, sectionsOf, bookOf, tableOf}
-use Rattle.trade.specs.Facts.{Facts, stepOf}
+use Rattle.trade.specs.Layout.{Sections, rowsDistance, sectionsOf}
+use Rattle.trade.specs.Facts.{Facts, said, stepOf}
+use Rattle.trade.specs.Table.{InMemory, bookOf, tableOf, emptyTable}
 use Rattle.trade.specs.Answers.{done, refused}
 use Rattle.trade.specs.Conflict.{conflict}
-use Rattle.trade.specs.Bound.{demand}
-use Rattle.trade.specs.Calls.{said, Got, Checked, Writing, Written, Adding, Removing, Changed, Starting, Started, Advancing, Advanced, readAnswer, checkAnswer, writeAnswer, addAnswer, removeAnswer, startAnswer, advanceAnswer, grantedIn, grantsIn, nextArea, readOf, checkOf, writeOf, addOf, removeOf, startOf, advanceOf}
+use Rattle.trade.specs.Bound.{Admissible}
+use Rattle.trade.specs.Calls.{Got, Checked, Writing, Written, Adding, Removing, Changed, Starting, Started, Advancing, Advanced, readAnswer, checkAnswer, writeAnswer, addAnswer, removeAnswer, startAnswer, advanceAnswer, boundsOf, withFlow, withoutFlow, startArea, flowsGranted, grantsIn, nextArea, readOf, checkOf, writeOf, addOf, removeOf, startOf, advanceOf}
 use Rattle.trade.specs.declared.answer.Answer.{Answer}
 use Rattle.trade.specs.declared.node.Transmission.{Transmission}
 
@@ -46,7 +47,8 @@ Done a = a .code ≡ 0
 abbrev pub Refused : Answer → Type 0
 Refused a = a .code ≡ 0 → ⊥
 
--- DEMAND 1. Each refusal has one number and one place in the order; a refused call changes none of the memory it was lent
+-- DEMAND 1. Each refusal has one number and one place in the order; a refused call changes none of the memory it was lent, and returns
+-- zeros in place of a table or of bounds
 pub record Demand1 (p : Program) : Type 0 where
   pub reads : (b : List ℕ) → p .read b .answer ≡ readAnswer b
   pub checks : (b : List ℕ) → p .check b .answer ≡ checkAnswer b
@@ -55,6 +57,8 @@ pub record Demand1 (p : Program) : Type 0 where
   pub removes : (r : Removing) → p .remove r .answer ≡ removeAnswer r
   pub starts : (s : Starting) → p .start s .answer ≡ startAnswer s
   pub advances : (a : Advancing) → p .advance a .answer ≡ advanceAnswer a
+  pub read-refused : (b : List ℕ) → Refused (p .read b .answer) → p .read b .table ≡ emptyTable
+  pub check-refused : (b : List ℕ) → Refused (p .check b .answer) → p .check b .bounds ≡ replicate mostFlows 0
   pub write-refused : (w : Writing) → Refused (p .write w .answer) → p .write w .buffer ≡ w .buffer
   pub add-refused : (a : Adding) → Refused (p .add a .answer) → p .add a .table ≡ a .table
   pub remove-refused : (r : Removing) → Refused (p .remove r .answer) → p .remove r .table ≡ r .table
@@ -62,12 +66,9 @@ pub record Demand1 (p : Program) : Type 0 where
   pub advance-refused :
       (a : Advancing) → Refused (p .advance a .answer) → (p .advance a .area ≡ a .area) × (p .advance a .grants ≡ a .grants)
 
--- R is admissible for flow l: L ≤ R ≤ D, and R is at least L plus the sum, over each flow h above it, of
--- ceil((R + D_h − 1) / P_h) × I(l,h)
-pub record Admissible (f : Facts) (l R : ℕ) : Type 0 where
-  pub plan : f .len l ≤ R
-  pub deadline : R ≤ f .deadline l
-  pub enough : demand f (f .deadline) l R ≤ R
+-- the bound that check reports for flow l
+abbrev pub reported : Program → List ℕ → ℕ → ℕ
+reported p b l = getD (p .check b .bounds) l 0
 
 -- DEMAND 2. Books are read and written exactly by the layout; conflict, interference and the greedy choice are those of the
 -- definitions; a well-formed table is accepted exactly when every flow has a response bound within its deadline, and the bound
@@ -78,22 +79,49 @@ pub record Demand2 (p : Program) : Type 0 where
       (w : Writing)
       → Done (writeAnswer w)
       → p .write w ≡ record { answer = done (length (bookOf (w .table))); buffer = over (bookOf (w .table)) (w .buffer) }
+  -- reading a written book gives the table back with its unused places zero; writing a read table gives the book's bytes
+  pub write-read :
+      (w : Writing)
+      → InMemory (w .table)
+      → Done (p .write w .answer)
+      → p .read (take (p .write w .answer .number) (p .write w .buffer)) ≡ record { answer = done 0; table = tableOf (w .table) }
+  pub read-write :
+      (b buffer : List ℕ)
+      → length b ≡ rowsDistance b
+      → Done (p .read b .answer)
+      → length b ≤ length buffer
+      → p .write (record { table = p .read b .table; buffer = buffer }) ≡ record { answer = done (length b); buffer = over b buffer }
+  -- accepted exactly when every flow has a response bound within its deadline; the bounds reported are the smallest, zeros elsewhere
   pub accepts :
       (b : List ℕ)
       → Done (readAnswer b)
-      → Done (p .check b .answer) ↔ ((l : ℕ) → l < said b .flows → (R : ℕ) × Admissible (said b) l R)
-  pub bounds :
+      → Done (p .check b .answer) ↔ ((l : ℕ) → l < said b .flows → (R : ℕ) × Admissible (said b) (said b .deadline) l R)
+  pub bounded :
       (b : List ℕ)
       → Done (p .check b .answer)
       → (l : ℕ)
       → l < said b .flows
-      → Admissible (said b) l (byte (p .check b .bounds) l)
-      × ((R : ℕ) → Admissible (said b) l R → byte (p .check b .bounds) l ≤ R)
+      → Admissible (said b) (said b .deadline) l (reported p b l)
+  pub smallest :
+      (b : List ℕ)
+      → Done (p .check b .answer)
+      → (l : ℕ)
+      → l < said b .flows
+      → (R : ℕ)
+      → Admissible (said b) (said b .deadline) l R
+      → reported p b l ≤ R
+  pub elsewhere : (b : List ℕ) → Done (p .check b .answer) → (l : ℕ) → said b .flows ≤ l → reported p b l ≡ 0
+  pub places : (b : List ℕ) → length (p .check b .bounds) ≡ mostFlows
+  -- a flow enters at its place, or is taken out, and nothing else changes; unused places are zero
+  pub adds : (a : Adding) → Done (addAnswer a) → p .add a .table ≡ tableOf (withFlow a)
+  pub removes : (r : Removing) → Done (removeAnswer r) → p .remove r .table ≡ tableOf (withoutFlow r)
+  pub starts : (s : Starting) → Done (startAnswer s) → p .start s .area ≡ over (startArea (said (s .book))) (s .area)
+  -- the count and the written bytes are those of the greedy choice
   pub grants :
       (a : Advancing)
       → Done (advanceAnswer a)
       → p .advance a
-      ≡ record { answer = done (length (grantedIn a)); area = over (nextArea a) (a .area); grants = over (grantsIn a) (a .grants) }
+      ≡ record { answer = done (length (flowsGranted a)); area = over (nextArea a) (a .area); grants = over (grantsIn a) (a .grants) }
 
 -- a book, memory lent for its run area, and the grant buffer lent in each slot
 pub record Lent : Type 0 where
@@ -116,15 +144,15 @@ areaBefore p r (suc t) = p .advance (record { book = r .book; area = areaBefore 
 unfoldable pub inSlot : Program → Lent → ℕ → Advanced
 inSlot p r t = p .advance (record { book = r .book; area = areaBefore p r t; grants = r .grants t })
 
--- a grant as its nine bytes say it
-pub record Said : Type 0 where
+-- a grant as it is read from its nine bytes
+pub record ReadGrant : Type 0 where
   pub id : ℕ
   pub instance : ℕ
   pub step : ℕ
   pub sender : ℕ
   pub receiver : ℕ
 
-unfoldable pub grantAt : List ℕ → ℕ → Said
+unfoldable pub grantAt : List ℕ → ℕ → ReadGrant
 grantAt buffer j =
     record {
       id = word buffer (grantBytes * j);
@@ -134,18 +162,18 @@ grantAt buffer j =
       receiver = byte buffer (grantBytes * j + 8);
     }
 
-unfoldable pub transmission : Said → Transmission
-transmission g = record { sender = record { 0 = g .sender }; receiver = record { 0 = g .receiver } }
+unfoldable pub sent : ReadGrant → Transmission
+sent g = record { sender = record { 0 = g .sender }; receiver = record { 0 = g .receiver } }
 
 -- grant j of slot t, of those that its advance counts
-abbrev pub grant : Program → Lent → ℕ → ℕ → Said
+abbrev pub grant : Program → Lent → ℕ → ℕ → ReadGrant
 grant p r t j = grantAt (inSlot p r t .grants) j
 
 abbrev pub Counted : Program → Lent → ℕ → ℕ → Type 0
 Counted p r t j = j < inSlot p r t .answer .number
 
 -- step s of instance v of flow l, as its grant says it
-unfoldable pub stepGrant : Facts → ℕ → ℕ → ℕ → Said
+unfoldable pub stepGrant : Facts → ℕ → ℕ → ℕ → ReadGrant
 stepGrant f l v s =
     record {
       id = f .id l;
@@ -156,8 +184,8 @@ stepGrant f l v s =
     }
 
 -- that step is granted in slot t
-abbrev pub GrantedIn : Program → Lent → ℕ → ℕ → ℕ → ℕ → Type 0
-GrantedIn p r l v s t = (j : ℕ) × Counted p r t j × (grant p r t j ≡ stepGrant (said (r .book)) l v s)
+abbrev pub Granted : Program → Lent → ℕ → ℕ → ℕ → ℕ → Type 0
+Granted p r l v s t = (j : ℕ) × Counted p r t j × (grant p r t j ≡ stepGrant (said (r .book)) l v s)
 
 -- instance v of flow l is released at phase + v × P
 unfoldable pub releaseOf : Facts → ℕ → ℕ → ℕ
@@ -167,7 +195,7 @@ releaseOf f l v = f .phase l + v * f .period l
 -- release
 pub record Kept (p : Program) (r : Lent) (l v R : ℕ) : Type 0 where
   pub slot : ℕ → ℕ
-  pub granted : (s : ℕ) → s < said (r .book) .len l → GrantedIn p r l v s (slot s)
+  pub granted : (s : ℕ) → s < said (r .book) .len l → Granted p r l v s (slot s)
   pub released : (s : ℕ) → s < said (r .book) .len l → releaseOf (said (r .book)) l v ≤ slot s
   pub within : (s : ℕ) → s < said (r .book) .len l → slot s < releaseOf (said (r .book)) l v + R
   pub ordered : (s u : ℕ) → s < u → u < said (r .book) .len l → slot s < slot u
@@ -181,11 +209,12 @@ pub record Due (p : Program) (r : Lent) (t j : ℕ) : Type 0 where
   pub released : releaseOf (said (r .book)) flow instance ≤ t
   pub unfinished : step < said (r .book) .len flow
   pub grants : grant p r t j ≡ stepGrant (said (r .book)) flow instance step
-  pub next : (s : ℕ) → s < step → (u : ℕ) × (u < t) × GrantedIn p r flow instance s u
+  pub next : (s : ℕ) → s < step → (u : ℕ) × (u < t) × Granted p r flow instance s u
 
 -- DEMAND 3. An accepted table, run from slot 0 for any number of slots to the end of the clock
 pub record Demand3 (p : Program) : Type 0 where
-  -- no slot is refused, and the one past the clock's end answers 12
+  -- start is done, no slot is refused, and the one past the clock's end answers 12
+  pub starts : (r : Lent) → Ready p r → Done (p .start (record { book = r .book; area = r .area }) .answer)
   pub runs : (r : Lent) → Ready p r → (t : ℕ) → t < endOfClock → Done (inSlot p r t .answer)
   pub ends : (r : Lent) → Ready p r → inSlot p r endOfClock .answer ≡ refused 12 0
   -- no two grants of a slot conflict
@@ -197,7 +226,7 @@ pub record Demand3 (p : Program) : Type 0 where
       → (i j : ℕ)
       → i < j
       → Counted p r t j
-      → conflict (said (r .book) .disturbs) (transmission (grant p r t i)) (transmission (grant p r t j)) ≡ false
+      → conflict (said (r .book) .disturbs) (sent (grant p r t i)) (sent (grant p r t j)) ≡ false
   -- every instance whose last slot by the reported bound runs has each step, in order, in separate slots, not before its release,
   -- the last within the bound
   pub kept :
@@ -205,8 +234,8 @@ pub record Demand3 (p : Program) : Type 0 where
       → Ready p r
       → (l v : ℕ)
       → l < said (r .book) .flows
-      → releaseOf (said (r .book)) l v + byte (p .check (r .book) .bounds) l ≤ endOfClock
-      → Kept p r l v (byte (p .check (r .book) .bounds) l)
+      → releaseOf (said (r .book)) l v + reported p (r .book) l ≤ endOfClock
+      → Kept p r l v (reported p (r .book) l)
   -- no flow, instance and step is granted twice, in one slot or in two
   pub once :
       (r : Lent)

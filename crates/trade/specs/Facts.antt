@@ -1,10 +1,11 @@
--- What a book or a table says, as functions of indices. The rules below read nothing else. Leans on Layout.
+-- What a book or a table says, as functions of indices. The rules read nothing else. Leans on Layout, First and Bytes.
 use Prim.Native.Nat.{ℕ, _+_, _*_, _/_, _%_}
 use mathlib.Core.Bool.{Bool}
+use mathlib.Core.List.{List}
 use Rattle.trade.specs.Limits.{rowBytes, stepBytes}
 use Rattle.trade.specs.First.{sumTo}
 use Rattle.trade.specs.Bytes.{byte, bit}
-use Rattle.trade.specs.Layout.{Sections, field, planLength}
+use Rattle.trade.specs.Layout.{Sections, sectionsOf, field}
 use Rattle.trade.specs.declared.node.Node.{Node}
 use Rattle.trade.specs.declared.node.Transmission.{Transmission}
 
@@ -43,13 +44,21 @@ factsOf s =
       phase = λ i. field (s .records) i 1;
       period = λ i. field (s .records) i 2;
       deadline = λ i. field (s .records) i 3;
-      len = planLength s;
+      len = λ i. field (s .records) i 4;
       step = stepIn s;
     }
 
--- where plan i starts among the steps of all plans
+-- what a slice says
+unfoldable pub said : List ℕ → Facts
+said slice = factsOf (sectionsOf slice)
+
+-- where plan i starts among the steps of all plans: the plans stand in flow order with no gap
 unfoldable pub firstStep : Facts → ℕ → ℕ
 firstStep f i = sumTo (f .len) i
+
+-- the sum of all L
+unfoldable pub allSteps : Facts → ℕ
+allSteps f = firstStep f (f .flows)
 
 -- step j of plan i
 unfoldable pub stepOf : Facts → ℕ → ℕ → Transmission

@@ -1,6 +1,7 @@
 -- Interference of a higher flow h on a flow l. Leans on Conflict and Facts.
-use Prim.Native.Nat.{ℕ, zero, suc, _+_, _-_}
+use Prim.Native.Nat.{ℕ, zero, suc, _+_, _-_, _≤_, _<_}
 use mathlib.Core.Bool.{Bool, true, false, cond}
+use mathlib.Core.List.{List, [], _∷_}
 use Rattle.trade.specs.First.{largestFrom}
 use Rattle.trade.specs.Facts.{Facts, stepOf}
 use Rattle.trade.specs.Conflict.{conflict}
@@ -12,6 +13,16 @@ Matrix = ℕ → ℕ → Bool
 -- a conflicting pair counts one
 unfoldable pub one : Bool → ℕ
 one marked = cond marked 1 0
+
+-- a choice: for each of k steps of h in order, a step of l, the choices never going back behind step i
+pub data Choice (rows : ℕ) : ℕ → ℕ → List ℕ → Type 0 where
+  chosen : {i : ℕ} → Choice rows i zero []
+  choose : {i k c : ℕ} {cs : List ℕ} → i ≤ c → c < rows → Choice rows c k cs → Choice rows i (suc k) (c ∷ cs)
+
+-- its count of conflicting pairs, from step j of h on
+unfoldable pub countOf : Matrix → ℕ → List ℕ → ℕ
+countOf marks j [] = 0
+countOf marks j (c ∷ cs) = one (marks c j) + countOf marks (suc j) cs
 
 -- for each of the k steps of h from j on, in order, choose a step of l, the choices never going back behind step i: the largest
 -- count of conflicting pairs that any choice reaches

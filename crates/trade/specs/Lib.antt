@@ -1,17 +1,23 @@
 -- What a reader must believe, in the order of document 01. Each definition stands under a sentence that restates its rule.
+-- The numbers that bound it.
 pub mod Limits
+-- The book, read from its end; the table.
 pub mod First
 pub mod Bytes
 pub mod Layout
 pub mod Facts
+pub mod Table
+-- Codes, in the order they are tested. (They lean on what stands below.)
 pub mod Answers
 pub mod Codes
+-- Conflict and interference. The response bound. One slot.
 pub mod Conflict
 pub mod Interference
 pub mod Bound
 pub mod Slot
 pub mod Area
 pub mod Run
+-- The calls, the demands, and the proved cases.
 pub mod Calls
 pub mod Demands
 pub mod Cases

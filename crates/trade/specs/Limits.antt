@@ -1,6 +1,7 @@
 -- The numbers that bound the planner, each by its one name. The contract of `all_limits` ties each to the associated constant that
 -- stands beside what it limits in the code. Leans on nothing.
 use Prim.Native.Nat.{ℕ, _+_}
+use mathlib.Core.List.{List, [], _∷_}
 use Rattle.trade.specs.declared.limits.Limits.{Limits}
 
 -- nodes 1 to 64, numbered from 0
@@ -48,6 +49,10 @@ stepBytes = 2
 abbrev pub trailerBytes : ℕ
 trailerBytes = 10
 
+-- a book ends with the two bytes 46 42 ("FB")
+abbrev pub mark : List ℕ
+mark = 0x46 ∷ 0x42 ∷ []
+
 -- the run area: the slot in 4 bytes, then a byte for each flow place, 36 in all
 abbrev pub slotBytes : ℕ
 slotBytes = 4
@@ -82,4 +87,5 @@ limitsOf =
       «area_bytes» = areaBytes;
       «grant_bytes» = grantBytes;
       packing = packing;
+      mark = mark;
     }

@@ -1,4 +1,5 @@
--- One slot: releases, then the choice in record order. Leans on Facts and Conflict.
+-- One slot: releases, then the choice in record order. The first releases and the rule of waiting are parameters: the phases and the
+-- greedy rule, today. Leans on Facts, Conflict and Bytes.
 use Prim.Native.Nat.{ℕ, zero, suc, _+_, _-_, _/_, _%_}
 use mathlib.Core.Bool.{Bool, true, false, cond, not, _&&_, _||_}
 use mathlib.Core.List.{List, [], _∷_, _++_, map}

@@ -26,6 +26,7 @@ pub struct Limits {
     pub area_bytes: usize,
     pub grant_bytes: usize,
     pub packing: u32,
+    pub mark: [u8; 2],
 }
 
 // Every figure, as the types that it limits have it.
@@ -48,5 +49,6 @@ pub fn all_limits() -> Limits
         area_bytes: Run::AREA_BYTES,
         grant_bytes: Grant::BYTES,
         packing: Answer::PACKING,
+        mark: Book::MARK,
     }
 }

@@ -1,0 +1,57 @@
+-- The first refusal of a list of rules: two inputs that no rule tells apart have the same answer. Leans on nothing. Assumes nothing.
+use Prim.Native.Nat.{ℕ}
+use mathlib.Core.Path.{_≡_, refl, ap, sym, _∙_}
+use mathlib.Core.Bool.{Bool, true, false, cond}
+use mathlib.Core.List.{List, [], _∷_, _++_}
+use mathlib.Core.Logic.{_⊎_, inl, inr}
+use borrow.Author.Tests.{eqb-false}
+use Rattle.trade.proofs.First.{bool-cases}
+use Rattle.trade.specs.Answers.{done, isDone, firstOf, on}
+use Rattle.trade.specs.declared.answer.Answer.{Answer}
+
+-- no rule tells x from y
+pub data Same {A : Type 0} (x y : A) : List (A → Answer) → Type 0 where
+  same-none : Same x y []
+  same-more : {rule : A → Answer} {rules : List (A → Answer)} → rule x ≡ rule y → Same x y rules → Same x y (rule ∷ rules)
+
+pub same-append : {A : Type 0} {x y : A} {rules more : List (A → Answer)} → Same x y rules → Same x y more → Same x y (rules ++ more)
+same-append same-none m = m
+same-append (same-more e s) m = same-more e (same-append s m)
+
+pub same-on : {A B : Type 0} (look : B → A) {x y : B} {rules : List (A → Answer)} → Same (look x) (look y) rules → Same x y (on look rules)
+unfolding on
+same-on look same-none = same-none
+same-on look (same-more e s) = same-more e (same-on look s)
+
+-- the first rule decides, or the others do
+pub firstOf-rule : {A : Type 0} (rule : A → Answer) (rules : List (A → Answer)) (number : A → ℕ) (x : A) → firstOf (rule ∷ rules) number x ≡ cond (isDone (rule x)) (firstOf rules number x) (rule x)
+unfolding firstOf
+firstOf-rule rule rules number x = go (isDone (rule x))
+  where
+    go : (b : Bool) → _≡_ {A = Answer} (elim b [ true ↦ firstOf rules number x | false ↦ rule x ]) (cond b (firstOf rules number x) (rule x))
+    go true = refl
+    go false = refl
+
+pub firstOf-same : {A : Type 0} {x y : A} {rules : List (A → Answer)} (number : A → ℕ) → Same x y rules → number x ≡ number y → firstOf rules number x ≡ firstOf rules number y
+unfolding firstOf
+firstOf-same number same-none n = ap done n
+firstOf-same {x = x} {y = y} number (same-more {rule = rule} {rules = rules} e s) n =
+    let rest = firstOf-same number s n in
+    firstOf-rule rule rules number x ∙ rw (e, rest) refl ∙ sym (firstOf-rule rule rules number y)
+
+-- a call that is done passed every rule, and has its number
+pub firstOf-done : {A : Type 0} (rules : List (A → Answer)) (number : A → ℕ) (x : A) → firstOf rules number x .code ≡ 0 → firstOf rules number x ≡ done (number x)
+unfolding firstOf isDone
+firstOf-done [] number x e = refl
+firstOf-done (rule ∷ rules) number x e = step (λ q. firstOf-done rules number x q) (bool-cases (isDone (rule x)))
+  where
+    step :
+        (firstOf rules number x .code ≡ 0 → firstOf rules number x ≡ done (number x))
+        → (isDone (rule x) ≡ true) ⊎ (isDone (rule x) ≡ false)
+        → firstOf (rule ∷ rules) number x ≡ done (number x)
+    step rest (inl d) =
+        let e' : firstOf (rule ∷ rules) number x ≡ firstOf rules number x = firstOf-rule rule rules number x ∙ rw d refl in
+        e' ∙ rest (sym (ap (λ (a : Answer). a .code) e') ∙ e)
+    step rest (inr d) =
+        let e' : firstOf (rule ∷ rules) number x ≡ rule x = firstOf-rule rule rules number x ∙ rw d refl in
+        absurd (eqb-false (rule x .code) 0 d (sym (ap (λ (a : Answer). a .code) e') ∙ e))

@@ -23,15 +23,15 @@ pub record Facts : Type 0 where
   pub step : ℕ → Transmission
 
 -- in row x, node y is bit y mod 8 of byte y div 8; set means that x disturbs y
-unfoldable pub disturbsIn : Sections → ℕ → ℕ → Bool
-disturbsIn s x y = bit (byte (s .rows) (rowBytes * x + y / 8)) (y % 8)
+unfoldable pub disturbsIn : List ℕ → ℕ → ℕ → Bool
+disturbsIn rows x y = bit (byte rows (rowBytes * x + y / 8)) (y % 8)
 
 -- a step is a sender and a receiver, a byte each
-unfoldable pub stepIn : Sections → ℕ → Transmission
-stepIn s k =
+unfoldable pub stepIn : List ℕ → ℕ → Transmission
+stepIn steps k =
     record {
-      sender = record { 0 = byte (s .steps) (stepBytes * k) };
-      receiver = record { 0 = byte (s .steps) (stepBytes * k + 1) };
+      sender = record { 0 = byte steps (stepBytes * k) };
+      receiver = record { 0 = byte steps (stepBytes * k + 1) };
     }
 
 unfoldable pub factsOf : Sections → Facts
@@ -39,13 +39,13 @@ factsOf s =
     record {
       nodes = s .nodes;
       flows = s .flows;
-      disturbs = disturbsIn s;
+      disturbs = disturbsIn (s .rows);
       id = λ i. field (s .records) i 0;
       phase = λ i. field (s .records) i 1;
       period = λ i. field (s .records) i 2;
       deadline = λ i. field (s .records) i 3;
       len = λ i. field (s .records) i 4;
-      step = stepIn s;
+      step = stepIn (s .steps);
     }
 
 -- what a slice says

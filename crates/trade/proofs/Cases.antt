@@ -2,7 +2,7 @@
 -- Assumes nothing.
 use Prim.Native.Nat.{ℕ}
 use mathlib.Core.Path.{_≡_, refl, ap}
-use mathlib.Core.Bool.{Bool, true, false}
+use mathlib.Core.Bool.{Bool, true, false, cond}
 use mathlib.Core.List.{List}
 use Rattle.trade.specs.declared.answer.Answer.{Answer}
 use Rattle.trade.proofs.Calls.{advance-done}
@@ -30,7 +30,7 @@ every-slot-empty :
 unfolding firstFrom first some sumTo largestFrom listFrom listTo word long twoBytes fourBytes bit part padded over trailer rowsDistance recordsDistance stepsDistance nodeCount flowCount sectionsOf field disturbsIn stepIn factsOf said firstStep allSteps stepOf stepsDistanceOf recordsDistanceOf rowsDistanceOf trailerOf used bookOf tableOf emptyTable isDone given givenFirst firstOf on meet conflict conflictsWith conflictFree one countOf worst worstPath matrix interference ceil instances slotsNeeded admissible boundBy bound boundless accepted atStart released instanceAt doneNow unfinished nextStep going greedy granted among nextState runTo grantOf grantsOf stateIn areaOf outside code1 code2 code3 code4 badRow code5 badRecord code6 code7 firstOfPlan repeats goesOn badStep code8 code14 code15Adding code15Removing code9 code13 badPlace code10 code12 overrun code11 bookRules tableRules readAnswer readOf checkRules checkAnswer boundsOf checkOf writeAnswer writeOf recordOf withFlow addAnswer addOf withoutFlow removeAnswer removeOf startAnswer startArea startOf flowsGranted advanceAnswer nextArea grantsIn advanceOf bookA bookB bookOfNone deadlineAt lent grantRoom areaAfter slotOf only noneDisturbs bareRows bare threeByThree noMark noNodes badDistance ownBit noId longerPlan jump tooTight checks starts advances areaWith tableA fullTable adds removes writes withRecords withSteps
 every-slot-empty area grants e = (ap (λ (r : Answer). r .number) (advance-done (record { book = bookOfNone; area = area; grants = grants }) e), either (isDone (advanceAnswer (record { book = bookOfNone; area = area; grants = grants }))))
   where
-    either : (b : Bool) → _≡_ {A = List ℕ} (elim b [ true ↦ over (grantsIn (record { book = bookOfNone; area = area; grants = grants })) grants | false ↦ grants ]) grants
+    either : (b : Bool) → _≡_ {A = List ℕ} (cond b (over (grantsIn (record { book = bookOfNone; area = area; grants = grants })) grants) grants) grants
     either true = refl
     either false = refl
 

@@ -7,4 +7,6 @@ pub mod Bound
 pub mod Slot
 pub mod Answers
 pub mod Calls
+pub mod Front
+pub mod Unique
 pub mod Cases

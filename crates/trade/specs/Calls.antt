@@ -1,7 +1,7 @@
 -- The seven calls: for all that a call is handed, its answer, what it returns beside it, and what it leaves in lent memory, done or
 -- refused. Leans on Codes and all below it.
 use Prim.Native.Nat.{ℕ, suc, pred, _+_, _-_, _*_}
-use mathlib.Core.Bool.{true, false}
+use mathlib.Core.Bool.{cond}
 use mathlib.Core.List.{List, [], _∷_, _++_}
 use lib.ListN.{length, take, drop, replicate}
 use Rattle.trade.specs.Limits.{mostFlows, recordBytes, stepBytes, areaBytes, grantBytes}
@@ -46,7 +46,7 @@ unfoldable pub readOf : List ℕ → Got
 readOf b =
     record {
       answer = readAnswer b;
-      table = elim (isDone (readAnswer b)) [ true ↦ tableOf (sectionsOf b) | false ↦ emptyTable ];
+      table = cond (isDone (readAnswer b)) (tableOf (sectionsOf b)) emptyTable;
     }
 
 -- CHECK a book: 1 to 8, 9. The m bounds, zeros elsewhere; refused, all zeros
@@ -67,7 +67,7 @@ unfoldable pub checkOf : List ℕ → Checked
 checkOf b =
     record {
       answer = checkAnswer b;
-      bounds = elim (isDone (checkAnswer b)) [ true ↦ boundsOf (said b) | false ↦ replicate mostFlows 0 ];
+      bounds = cond (isDone (checkAnswer b)) (boundsOf (said b)) (replicate mostFlows 0);
     }
 
 -- WRITE: 3, 5, 6, 8 on the table, then 13. The book at the front of the lent buffer, and nothing beyond it touched; refused, nothing
@@ -89,7 +89,7 @@ unfoldable pub writeOf : Writing → Written
 writeOf w =
     record {
       answer = writeAnswer w;
-      buffer = elim (isDone (writeAnswer w)) [ true ↦ over (bookOf (w .table)) (w .buffer) | false ↦ w .buffer ];
+      buffer = cond (isDone (writeAnswer w)) (over (bookOf (w .table)) (w .buffer)) (w .buffer);
     }
 
 -- ADD at a place: 3, 5, 6, 8 on the old table; 14; 15; 6 and 8 on the new one; 9 on the new one. Refused, the table as handed in.
@@ -137,7 +137,7 @@ unfoldable pub addOf : Adding → Changed
 addOf a =
     record {
       answer = addAnswer a;
-      table = elim (isDone (addAnswer a)) [ true ↦ tableOf (withFlow a) | false ↦ a .table ];
+      table = cond (isDone (addAnswer a)) (tableOf (withFlow a)) (a .table);
     }
 
 -- REMOVE: 3, 5, 6, 8; 15. Refused, the table as handed in
@@ -166,7 +166,7 @@ unfoldable pub removeOf : Removing → Changed
 removeOf r =
     record {
       answer = removeAnswer r;
-      table = elim (isDone (removeAnswer r)) [ true ↦ tableOf (withoutFlow r) | false ↦ r .table ];
+      table = cond (isDone (removeAnswer r)) (tableOf (withoutFlow r)) (r .table);
     }
 
 -- START: 1 to 8, 9, 13. Slot 0, each flow's byte equal to its L, unused places 0; bytes past 36 untouched; refused, nothing touched
@@ -188,7 +188,7 @@ unfoldable pub startOf : Starting → Started
 startOf s =
     record {
       answer = startAnswer s;
-      area = elim (isDone (startAnswer s)) [ true ↦ over (startArea (said (s .book))) (s .area) | false ↦ s .area ];
+      area = cond (isDone (startAnswer s)) (over (startArea (said (s .book))) (s .area)) (s .area);
     }
 
 -- ADVANCE by one slot: 1 to 8, 13, 10, 12, 11. The number is the count of grants; each grant in its own nine bytes of the lent
@@ -233,6 +233,6 @@ unfoldable pub advanceOf : Advancing → Advanced
 advanceOf a =
     record {
       answer = advanceAnswer a;
-      area = elim (isDone (advanceAnswer a)) [ true ↦ over (nextArea a) (a .area) | false ↦ a .area ];
-      grants = elim (isDone (advanceAnswer a)) [ true ↦ over (grantsIn a) (a .grants) | false ↦ a .grants ];
+      area = cond (isDone (advanceAnswer a)) (over (nextArea a) (a .area)) (a .area);
+      grants = cond (isDone (advanceAnswer a)) (over (grantsIn a) (a .grants)) (a .grants);
     }

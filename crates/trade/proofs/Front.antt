@@ -1,0 +1,165 @@
+-- Bytes before the book bear on nothing: in front of a slice that passes codes 1 to 4, any bytes leave every call's answer, and all
+-- that it returns or leaves in lent memory, the same. Leans on Answers. Assumes nothing.
+use Prim.Native.Nat.{ℕ, zero, suc, _+_, _-_, _*_, _≤_, _<_}
+use mathlib.Core.Path.{_≡_, refl, sym, _∙_, ap, ap₂, subst}
+use mathlib.Core.Bool.{Bool, true, false, cond, not, _||_}
+use mathlib.Core.List.{List, [], _∷_, _++_}
+use native.Mathlib.Omega.{arith}
+use lib.Dec.{eqb, ltb}
+use lib.ListN.{length, take, drop, length-append}
+use lib.Seq.{drop-append-add}
+use borrow.Author.Tests.{ltb-true, ltb-false, le-ltb, eqb-true, not-false}
+use Rattle.trade.specs.Limits.{rowBytes, recordBytes, trailerBytes, grantBytes}
+use Rattle.trade.specs.Bytes.{part}
+use Rattle.trade.specs.Layout.{Sections, trailer, rowsDistance, recordsDistance, stepsDistance, nodeCount, flowCount, sectionsOf}
+use Rattle.trade.specs.Facts.{Facts, factsOf, said}
+use Rattle.trade.specs.Table.{stepsDistanceOf, tableOf, emptyTable}
+use Rattle.trade.specs.Answers.{given, noNumber}
+use Rattle.trade.specs.Area.{stateIn}
+use Rattle.trade.specs.Codes.{code1, code2, code3, code4, code5, code6, code7, code8, code9, code10, code11, code13}
+use Rattle.trade.specs.Calls.{bookRules, checkRules, readAnswer, checkAnswer, startAnswer, advanceAnswer, readOf, checkOf, startOf, advanceOf, Starting, Advancing, flowsGranted, grantsIn, nextArea}
+use Rattle.trade.specs.declared.answer.Answer.{Answer}
+use Rattle.trade.proofs.First.{bool-cases, not-both, or-false}
+use Rattle.trade.proofs.Answers.{Same, same-none, same-more, same-append, same-on, firstOf-same}
+
+-- what codes 1 and 4 leave of a slice that passes them: the trailer is there, and the three sections lie in the slice
+pub record Framed (b : List ℕ) : Type 0 where
+  pub trailer : trailerBytes ≤ length b
+  pub rows : rowsDistance b ≤ length b
+  pub records : recordsDistance b ≤ length b
+  pub steps : stepsDistance b ≤ length b
+
+given-passed : (code : ℕ) (test : Bool) (number : ℕ) → given (suc code) test number .code ≡ 0 → test ≡ false
+unfolding given
+given-passed code true number e = absurd (omega arith)
+given-passed code false number e = refl
+
+pub framed : (b : List ℕ) → code1 b .code ≡ 0 → code4 b .code ≡ 0 → Framed b
+unfolding code1 code4
+framed b e1 e4 =
+    let p = or-false _ _ (given-passed 3 _ 0 e4) in
+    let q = or-false _ _ (p .0) in
+    let r = or-false _ _ (q .0) in
+    let s = or-false _ _ (r .0) in
+    let rows : rowsDistance b ≡ recordsDistance b + rowBytes * nodeCount b = eqb-true _ _ (not-false _ (s .0)) in
+    let records : recordsDistance b ≡ stepsDistance b + recordBytes * flowCount b = eqb-true _ _ (not-false _ (s .1)) in
+    let within : rowsDistance b ≤ length b = ltb-false _ _ (p .1) in
+    record {
+      trailer = ltb-false _ _ (given-passed 0 _ 0 e1);
+      rows = within;
+      records = omega arith;
+      steps = omega arith;
+    }
+
+-- the same place, counted back from the end
+drop-front : (front b : List ℕ) (d : ℕ) → d ≤ length b → drop (length (front ++ b) - d) (front ++ b) ≡ drop (length b - d) b
+drop-front front b d h =
+    let e : length (front ++ b) - d ≡ length front + (length b - d) = omega (arith, length-append front b) in
+    rw e (drop-append-add front b (length b - d))
+
+module _ (front b : List ℕ) (f : Framed b) where
+  trailer-front : trailer (front ++ b) ≡ trailer b
+  unfolding trailer
+  trailer-front = drop-front front b trailerBytes (f .trailer)
+
+  part-front : (d k : ℕ) → d ≤ length b → part (length (front ++ b) - d) k (front ++ b) ≡ part (length b - d) k b
+  unfolding part
+  part-front d k h = ap (take k) (drop-front front b d h)
+
+  pub sections-front : sectionsOf (front ++ b) ≡ sectionsOf b
+  unfolding sectionsOf rowsDistance recordsDistance stepsDistance nodeCount flowCount
+  sections-front =
+      rw (
+        trailer-front,
+        part-front (rowsDistance b) (rowBytes * nodeCount b) (f .rows),
+        part-front (recordsDistance b) (recordBytes * flowCount b) (f .records),
+        part-front (stepsDistance b) (stepsDistance b - trailerBytes) (f .steps),
+      )
+
+  pub said-front : said (front ++ b) ≡ said b
+  unfolding said
+  said-front = ap factsOf sections-front
+
+  longer : length b ≤ length (front ++ b)
+  longer = omega (arith, length-append front b)
+
+  code1-front : code1 (front ++ b) ≡ code1 b
+  unfolding code1
+  code1-front = rw (le-ltb (length (front ++ b)) trailerBytes (omega (arith, longer, f .trailer)), le-ltb (length b) trailerBytes (f .trailer))
+
+  code2-front : code2 (front ++ b) ≡ code2 b
+  unfolding code2
+  code2-front = rw trailer-front
+
+  code4-front : code4 (front ++ b) ≡ code4 b
+  unfolding code4 rowsDistance recordsDistance stepsDistance nodeCount flowCount
+  code4-front =
+      rw (
+        trailer-front,
+        le-ltb (length (front ++ b)) (rowsDistance b) (omega (arith, longer, f .rows)),
+        le-ltb (length b) (rowsDistance b) (f .rows),
+      )
+
+  code7-front : code7 (front ++ b) ≡ code7 b
+  unfolding code7 stepsDistance
+  code7-front = rw (trailer-front, sections-front)
+
+  book-front : Same (front ++ b) b bookRules
+  unfolding bookRules
+  book-front =
+      same-more code1-front
+      (same-more code2-front
+      (same-more (ap code3 said-front)
+      (same-more code4-front
+      (same-more (ap code5 said-front)
+      (same-more (ap code6 said-front) (same-more code7-front (same-more (ap code8 said-front) same-none)))))))
+
+  check-front : Same (front ++ b) b checkRules
+  unfolding checkRules
+  check-front = same-append book-front (same-more (ap code9 said-front) same-none)
+
+  -- READ
+  pub read-front : readOf (front ++ b) ≡ readOf b
+  unfolding readOf readAnswer
+  read-front = rw (firstOf-same noNumber book-front refl, sections-front)
+
+  -- CHECK
+  pub check-front-same : checkOf (front ++ b) ≡ checkOf b
+  unfolding checkOf checkAnswer
+  check-front-same = rw (firstOf-same noNumber check-front refl, said-front)
+
+  -- START
+  start-answer : (area : List ℕ) → startAnswer (record { book = front ++ b; area = area }) ≡ startAnswer (record { book = b; area = area })
+  unfolding startAnswer
+  start-answer area =
+      firstOf-same noNumber (same-append (same-on (λ (s : Starting). s .book) check-front) (same-more refl same-none)) refl
+
+  pub start-front : (area : List ℕ) → startOf (record { book = front ++ b; area = area }) ≡ startOf (record { book = b; area = area })
+  unfolding startOf
+  start-front area = rw (start-answer area, said-front)
+
+  -- ADVANCE
+  granted-front :
+      (area grants : List ℕ)
+      → flowsGranted (record { book = front ++ b; area = area; grants = grants }) ≡ flowsGranted (record { book = b; area = area; grants = grants })
+  unfolding flowsGranted
+  granted-front area grants = rw said-front
+
+  advance-answer :
+      (area grants : List ℕ)
+      → advanceAnswer (record { book = front ++ b; area = area; grants = grants }) ≡ advanceAnswer (record { book = b; area = area; grants = grants })
+  unfolding advanceAnswer
+  advance-answer area grants =
+      firstOf-same (λ (a : Advancing). length (flowsGranted a))
+      (same-append (same-on (λ (a : Advancing). a .book) book-front)
+      (same-more refl
+      (same-more (ap (λ (f : Facts). code13 (grantBytes * f .flows) grants) said-front)
+      (same-more (ap (λ (f : Facts). code10 f (stateIn area)) said-front)
+      (same-more refl (same-more (ap (λ (f : Facts). code11 f (stateIn area)) said-front) same-none))))))
+      (ap length (granted-front area grants))
+
+  pub advance-front :
+      (area grants : List ℕ)
+      → advanceOf (record { book = front ++ b; area = area; grants = grants }) ≡ advanceOf (record { book = b; area = area; grants = grants })
+  unfolding advanceOf nextArea grantsIn
+  advance-front area grants = rw (advance-answer area grants, said-front, granted-front area grants)

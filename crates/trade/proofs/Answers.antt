@@ -1,12 +1,13 @@
 -- The first refusal of a list of rules: two inputs that no rule tells apart have the same answer. Leans on nothing. Assumes nothing.
-use Prim.Native.Nat.{ℕ}
+use Prim.Native.Nat.{ℕ, _<_}
 use mathlib.Core.Path.{_≡_, refl, ap, sym, _∙_}
 use mathlib.Core.Bool.{Bool, true, false, cond}
 use mathlib.Core.List.{List, [], _∷_, _++_}
 use mathlib.Core.Logic.{_⊎_, inl, inr}
 use borrow.Author.Tests.{eqb-false}
-use Rattle.trade.proofs.First.{bool-cases}
-use Rattle.trade.specs.Answers.{done, isDone, firstOf, on}
+use native.Mathlib.Omega.{arith}
+use Rattle.trade.proofs.First.{bool-cases, some-intro, some-none, first-unique}
+use Rattle.trade.specs.Answers.{done, refused, isDone, given, givenFirst, firstOf, on}
 use Rattle.trade.specs.declared.answer.Answer.{Answer}
 
 -- no rule tells x from y
@@ -55,3 +56,22 @@ firstOf-done (rule ∷ rules) number x e = step (λ q. firstOf-done rules number
     step rest (inr d) =
         let e' : firstOf (rule ∷ rules) number x ≡ rule x = firstOf-rule rule rules number x ∙ rw d refl in
         absurd (eqb-false (rule x .code) 0 d (sym (ap (λ (a : Answer). a .code) e') ∙ e))
+
+-- a code that is given at the first bad place, where a search found one, and where it found none
+pub givenFirst-at : (code : ℕ) (bad : ℕ → Bool) (n i : ℕ) → i < n → ((j : ℕ) → j < i → bad j ≡ false) → bad i ≡ true → givenFirst code bad n ≡ refused code i
+unfolding givenFirst given
+givenFirst-at code bad n i l before holds =
+    rw (some-intro bad n i l holds, first-unique bad n i (omega arith) before (λ h. holds))
+
+pub givenFirst-none : (code : ℕ) (bad : ℕ → Bool) (n : ℕ) → ((j : ℕ) → j < n → bad j ≡ false) → givenFirst code bad n ≡ done 0
+unfolding givenFirst given
+givenFirst-none code bad n before = rw (some-none bad n before)
+
+-- and a code that is given by one condition
+pub given-true : (code : ℕ) (test : Bool) (number : ℕ) → test ≡ true → given code test number ≡ refused code number
+unfolding given
+given-true code test number e = rw e
+
+pub given-false : (code : ℕ) (test : Bool) (number : ℕ) → test ≡ false → given code test number ≡ done 0
+unfolding given
+given-false code test number e = rw e

@@ -5,7 +5,8 @@ use mathlib.Core.List.{List}
 use Rattle.trade.specs.Limits.{rowBytes, stepBytes}
 use Rattle.trade.specs.First.{sumTo}
 use Rattle.trade.specs.Bytes.{byte, bit}
-use Rattle.trade.specs.Layout.{Sections, sectionsOf, field}
+use Rattle.trade.specs.Layout.{Sections, sections, sectionsOf, field}
+use Rattle.trade.specs.declared.flow.Flow.{Flow}
 use Rattle.trade.specs.declared.node.Node.{Node}
 use Rattle.trade.specs.declared.node.Transmission.{Transmission}
 
@@ -46,6 +47,21 @@ factsOf s =
       deadline = λ i. field (s .records) i 3;
       len = λ i. field (s .records) i 4;
       step = stepIn (s .steps);
+    }
+
+-- what counts and sections say
+abbrev pub factsIn : ℕ → ℕ → List ℕ → List ℕ → List ℕ → Facts
+factsIn n m rows records steps = factsOf (sections n m rows records steps)
+
+-- record i as a flow
+unfoldable pub flowIn : List ℕ → ℕ → Flow
+flowIn records i =
+    record {
+      id = field records i 0;
+      phase = field records i 1;
+      period = field records i 2;
+      deadline = field records i 3;
+      len = field records i 4;
     }
 
 -- what a slice says

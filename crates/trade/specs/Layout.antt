@@ -13,6 +13,10 @@ pub record Sections : Type 0 where
   pub records : List ℕ
   pub steps : List ℕ
 
+-- counts and sections put together
+abbrev pub sections : ℕ → ℕ → List ℕ → List ℕ → List ℕ → Sections
+sections n m rows records steps = record { nodes = n; flows = m; rows = rows; records = records; steps = steps }
+
 -- the trailer is the last 10 bytes of the slice
 unfoldable pub trailer : List ℕ → List ℕ
 trailer slice = drop (length slice - trailerBytes) slice

@@ -1,0 +1,2 @@
+-- What the contracts of transmissions on lent rows and steps speak of.
+pub mod Network

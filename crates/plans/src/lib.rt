@@ -1,0 +1,3 @@
+// Transmissions on lent rows and steps: who disturbs whom, what conflicts, how far one plan holds up another, and the grants of a slot.
+pub mod conflict;
+pub mod steps;

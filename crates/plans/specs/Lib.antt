@@ -1,2 +1,3 @@
 -- What the contracts of transmissions on lent rows and steps speak of.
 pub mod Network
+pub mod Line

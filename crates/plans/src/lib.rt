@@ -1,3 +1,4 @@
 // Transmissions on lent rows and steps: who disturbs whom, what conflicts, how far one plan holds up another, and the grants of a slot.
 pub mod conflict;
+pub mod interference;
 pub mod steps;

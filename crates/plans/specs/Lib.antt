@@ -1,0 +1,4 @@
+-- What the contracts of transmissions on lent rows and steps speak of.
+pub mod Network
+pub mod Line
+pub mod Mask

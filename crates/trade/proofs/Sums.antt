@@ -20,6 +20,11 @@ unfolding sumTo
 sum-mono f g zero e = omega arith
 sum-mono f g (suc n) e = add-le-add (sum-mono f g n (λ i h. e i (omega arith))) (e n (omega arith))
 
+-- one more index adds its figure
+pub sum-next : (f : ℕ → ℕ) (n : ℕ) → sumTo f (suc n) ≡ sumTo f n + f n
+unfolding sumTo
+sum-next f n = refl
+
 -- a sum over fewer indices is no larger
 pub sum-le : (f : ℕ → ℕ) (m n : ℕ) → m ≤ n → sumTo f m ≤ sumTo f n
 unfolding sumTo

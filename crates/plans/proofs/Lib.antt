@@ -1,3 +1,4 @@
 -- Laws that belong to no one function.
 pub mod Line
 pub mod Bits
+pub mod Holding

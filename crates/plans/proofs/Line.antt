@@ -87,6 +87,23 @@ module _ (column : ℕ → Bool) (n : ℕ) (before : List ℕ) where
   pub working-worked : (line : List ℕ) (best : ℕ) → Working column n before line best 0 → Worked column n before line
   working-worked line best w = record { size = w .size; figures = λ i h. w .done i (omega arith) h; others = w .others }
 
+-- columns that agree are worked in alike
+pub worked-cong :
+    (column other : ℕ → Bool) (n : ℕ) (before after : List ℕ)
+    → ((c : ℕ) → c < n → column c ≡ other c)
+    → Worked column n before after
+    → Worked other n before after
+worked-cong column other n before after e w =
+    record {
+      size = w .size;
+      figures =
+          λ i h.
+          w .figures i h
+          ∙ largest-cong (counted column before) (counted other before) i (n - i)
+          (λ c l u. ap (λ (marked : Bool). one marked + getD before c 0) (e c (omega arith)));
+      others = w .others;
+    }
+
 -- no choice counts more than it has columns
 pub worst-at-most : (marks : Matrix) (rows i j k : ℕ) → worst marks rows i j k ≤ k
 unfolding worst

@@ -2,3 +2,4 @@
 pub mod Network
 pub mod Line
 pub mod Mask
+pub mod Grants

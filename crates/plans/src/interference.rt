@@ -8,7 +8,7 @@ ghost use Rattle.trade.specs.Conflict.{conflict};
 ghost use Rattle.trade.specs.Interference.{one, worstPath};
 ghost use Rattle.plans.specs.Network.{Within, AllWithin};
 ghost use Rattle.plans.specs.Line.{Line, Worked, stepsIn, marksOf};
-use crate::conflict::conflict;
+use crate::grants::GrantSet;
 use crate::steps::step_at;
 use trade::Plan;
 use trade::Transmission;
@@ -27,11 +27,12 @@ fn work_in(rows: &[u8], l: &[u8], u: Transmission, line: &mut [u8; Plan::MOST])
     requires { ⌜ (length (now l) ≤ stepBytes * mostSteps) × Within (now rows) u × AllWithin (now rows) (now l) × Line (now line) ⌝ }
     ensures { λ r. ⌜ Worked (λ i. conflict (disturbsIn (now (rows .entry))) (stepIn (now (l .entry)) i) u) (stepsIn (now (l .entry))) (now (line .entry)) (now (line .exit)) ⌝ }
 {
+    let held = GrantSet::empty().with(rows, u);
     let mut best: u8 = 0;
     let mut i = l.len() / Plan::STEP_BYTES;
     while i > 0 {
         i -= 1;
-        best = best_of(line[i], conflict(rows, step_at(l, i), u), best);
+        best = best_of(line[i], held.clashes(rows, step_at(l, i)), best);
         line[i] = best;
     }
 }

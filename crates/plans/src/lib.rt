@@ -1,5 +1,6 @@
 // Transmissions on lent rows and steps: who disturbs whom, what conflicts, how far one plan holds up another, and the grants of a slot.
 pub mod conflict;
+pub mod grants;
 pub mod interference;
 mod mask;
 pub mod steps;

@@ -1,0 +1,11 @@
+-- `plans::grants::GrantSet::empty` holds no grants. Assumes nothing.
+use mathlib.Core.Path.{refl}
+use Rattle.plans.proofs.Holding.{holds-none}
+use Rattle.plans.proofs.grants.GrantSet.empty.Statement.{statement}
+use Rattle.plans.proofs.grants.GrantSet.empty.Tie as tie
+
+returns : tie.Need-returns
+returns c = (refl, holds-none)
+
+pub empty-spec : {M : Type 1} → statement M
+empty-spec = tie.close (tie.spec returns)

@@ -1,4 +1,5 @@
 -- Laws that the proofs of this crate's functions cite.
 pub mod Words
+pub mod BadRow
 pub mod BadRecord
 pub mod BadStep

@@ -2,5 +2,5 @@
 pub mod conflict;
 pub mod grants;
 pub mod interference;
-mod mask;
+pub mod mask;
 pub mod steps;

@@ -55,7 +55,7 @@ fn eight(bytes: &[u8], at: usize) -> u64
 }
 
 // The nodes that a node disturbs: its row.
-pub(crate) fn row_mask(rows: &[u8], x: Node) -> u64
+pub fn row_mask(rows: &[u8], x: Node) -> u64
     requires { ⌜ InNetwork (now rows) x ⌝ }
     ensures { λ r. ⌜ r ≡ rowMask (now (rows .entry)) (x .0) ⌝ }
 {

@@ -3,3 +3,4 @@ pub mod Words
 pub mod BadRow
 pub mod BadRecord
 pub mod BadStep
+pub mod Frames

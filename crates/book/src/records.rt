@@ -114,7 +114,7 @@ pub fn len_at(records: &[u8], i: usize) -> usize
 // The steps of the plans before a place: where the plan there starts.
 pub fn steps_before(records: &[u8], flows: usize) -> usize
     requires { ⌜ (flows ≤ mostFlows) × (recordBytes * flows ≤ length (now records)) ⌝ }
-    ensures { λ r. ⌜ r ≡ sumTo (λ i. field (now (records .entry)) i 4) flows ⌝ }
+    ensures { λ r. ⌜ (r ≡ sumTo (λ i. field (now (records .entry)) i 4) flows) × (r ≤ mostId * flows) ⌝ }
 {
     let mut sum = 0;
     let mut i = 0;

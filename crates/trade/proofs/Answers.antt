@@ -1,13 +1,14 @@
 -- The first refusal of a list of rules: two inputs that no rule tells apart have the same answer. Leans on nothing. Assumes nothing.
-use Prim.Native.Nat.{ℕ, _<_}
+use Prim.Native.Nat.{ℕ, suc, _<_}
 use mathlib.Core.Path.{_≡_, refl, ap, sym, _∙_}
 use mathlib.Core.Bool.{Bool, true, false, cond}
 use mathlib.Core.List.{List, [], _∷_, _++_}
-use mathlib.Core.Logic.{_⊎_, inl, inr}
-use borrow.Author.Tests.{eqb-false}
+use mathlib.Core.Logic.{_⊎_, inl, inr, ⊎-elim}
+use lib.Dec.{eqb}
+use borrow.Author.Tests.{eqb-true, eqb-false, eq-eqb, ne-eqb}
 use native.Mathlib.Omega.{arith}
 use Rattle.trade.proofs.First.{bool-cases, some-intro, some-none, first-unique}
-use Rattle.trade.specs.Answers.{done, refused, isDone, given, givenFirst, firstOf, on}
+use Rattle.trade.specs.Answers.{done, refused, isDone, given, givenFirst, firstOf, on, noNumber}
 use Rattle.trade.specs.declared.answer.Answer.{Answer}
 
 -- no rule tells x from y
@@ -75,3 +76,26 @@ given-true code test number e = rw e
 pub given-false : (code : ℕ) (test : Bool) (number : ℕ) → test ≡ false → given code test number ≡ done 0
 unfolding given
 given-false code test number e = rw e
+
+-- a rule that refuses is the answer; one that passes leaves it to those after it
+pub firstOf-refuse : {A : Type 0} (rule : A → Answer) (rules : List (A → Answer)) (number : A → ℕ) (x : A) → (rule x .code ≡ 0 → ⊥) → firstOf (rule ∷ rules) number x ≡ rule x
+unfolding isDone
+firstOf-refuse rule rules number x n = firstOf-rule rule rules number x ∙ rw (ne-eqb (rule x .code) 0 n)
+
+pub firstOf-pass : {A : Type 0} (rule : A → Answer) (rules : List (A → Answer)) (number : A → ℕ) (x : A) → rule x .code ≡ 0 → firstOf (rule ∷ rules) number x ≡ firstOf rules number x
+unfolding isDone
+firstOf-pass rule rules number x e = firstOf-rule rule rules number x ∙ rw (eq-eqb (rule x .code) 0 e)
+
+-- a rule that passes has no number, so the last rule's answer is the call's
+pub given-passes : (code : ℕ) (test : Bool) (number : ℕ) → given (suc code) test number .code ≡ 0 → given (suc code) test number ≡ done 0
+unfolding given
+given-passes code true number e = absurd (omega arith)
+given-passes code false number e = refl
+
+pub firstOf-last : {A : Type 0} (rule : A → Answer) (x : A) → (rule x .code ≡ 0 → rule x ≡ done 0) → firstOf (rule ∷ []) noNumber x ≡ rule x
+unfolding firstOf isDone
+firstOf-last rule x plain =
+    ⊎-elim
+    (λ (e : eqb (rule x .code) 0 ≡ true). firstOf-rule rule [] noNumber x ∙ rw e (sym (plain (eqb-true (rule x .code) 0 e))))
+    (λ (e : eqb (rule x .code) 0 ≡ false). firstOf-rule rule [] noNumber x ∙ rw e)
+    (bool-cases (eqb (rule x .code) 0))

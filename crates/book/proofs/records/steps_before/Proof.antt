@@ -54,7 +54,7 @@ loop-again c = (
 returns : tie.Need-returns Inv-loop μ-loop
 returns c =
     let e : c .before .loop .i ≡ c .before .before .before .args .flows = omega arith in
-    c .before .loop .inv .2 ∙ ap (sumTo (λ (k : ℕ). field (now (c .before .before .before .args .records)) k 4)) e
+    (c .before .loop .inv .2 ∙ ap (sumTo (λ (k : ℕ). field (now (c .before .before .before .args .records)) k 4)) e, omega arith)
 
 pub steps-before-spec : {M : Type 1} → statement M
 steps-before-spec =

@@ -2,3 +2,4 @@
 pub mod Line
 pub mod Bits
 pub mod Holding
+pub mod Unique

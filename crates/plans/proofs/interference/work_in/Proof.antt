@@ -1,7 +1,7 @@
 -- `plans::interference::work_in` works one column into the line, the marks asked of a set that holds the one step of h. The loop's
 -- invariant: the steps of l from i on have their figures, those before i and those past the plan are as lent. The measure is i.
 -- Assumes nothing.
-use Prim.Native.Nat.{ℕ, suc, _-_, _<_}
+use Prim.Native.Nat.{ℕ, suc, _-_}
 use mathlib.Core.Path.{_≡_}
 use mathlib.Core.List.{[]}
 use native.Mathlib.Omega.{arith}

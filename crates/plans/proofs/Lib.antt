@@ -3,3 +3,4 @@ pub mod Line
 pub mod Bits
 pub mod Holding
 pub mod Unique
+pub mod Parts

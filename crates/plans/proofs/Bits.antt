@@ -1,22 +1,21 @@
 -- Bits of masks: of a union, of a common part, of one node, and of a row. Leans on lib.Bits. Assumes nothing.
 use Prim.Native.Nat.{ℕ, zero, suc, _+_, _-_, _*_, _/_, _%_, _^_, _≤_, _<_}
-use mathlib.Core.Path.{_≡_, refl, sym, _∙_, ap, ap₂, subst}
+use mathlib.Core.Path.{_≡_, refl, sym, _∙_, ap, ap₂}
 use mathlib.Core.Bool.{Bool, true, false, not, _&&_, _||_}
 use mathlib.Core.Logic.{_⊎_, inl, inr, ⊎-elim}
 use mathlib.Core.List.{List}
 use native.Mathlib.Omega.{arith}
 use native.Mathlib.Nat.{div-one, zero-div, pow-suc, mod-lt, mul-mod-left, mul-div-cancel, add-zero, zero-add, suc-add, mul-assoc, zero-mul, one-mul}
-use native.Mathlib.Numerals.{add-one, one-add}
+use native.Mathlib.Numerals.{one-add}
 use lib.Dec.{eqb, eqb·zero-suc, eqb·suc-zero, eqb·suc-suc}
-use lib.ListN.{length, getD}
-use lib.Bits.{bitOr, bitAnd, or-shr, or-mod, and-shr, and-mod, and-block, and-mask, and-zero-r, and-step, or-step, or-add-and, and-le-l, and-le-r, block-half, block-odd, shifted-half, shifted-even}
+use lib.Bits.{bitOr, bitAnd, or-shr, or-mod, and-shr, and-mod, and-block, and-mask, and-zero-r, or-add-and, and-le-r, block-half, block-odd}
 use lib.Pow.{pow-pos, shr-shr, split, high}
 use lib.Arith.{bin-ind, digits-lt}
-use borrow.Author.Tests.{eqb-true, eqb-false, eq-eqb, ne-eqb}
+use borrow.Author.Tests.{ne-eqb}
 use Rattle.trade.specs.Limits.{rowBytes, mostNodes}
 use Rattle.trade.specs.Bytes.{byte, bit}
 use Rattle.trade.specs.Facts.{disturbsIn}
-use Rattle.trade.proofs.First.{bool-cases, lt-or-ge}
+use Rattle.trade.proofs.First.{lt-or-ge}
 use Rattle.plans.specs.Mask.{only, meets, lowFirst, rowMask}
 
 -- the lowest bit, and the others

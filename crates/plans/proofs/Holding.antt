@@ -1,7 +1,7 @@
 -- The grant set holds the grants that were made: none at first, and one more with each. Leans on Bits. Assumes nothing.
 use Prim.Native.Nat.{ℕ, _^_, _<_}
 use mathlib.Core.Path.{_≡_, refl, sym, _∙_, ap, ap₂}
-use mathlib.Core.Bool.{Bool, true, false, not, _||_, or-assoc, or-false}
+use mathlib.Core.Bool.{Bool, true, false, _||_, or-assoc, or-false}
 use mathlib.Core.List.{List, [], _∷_, _++_}
 use lib.Dec.{eqb}
 use lib.Bits.{bitOr, and-zero-r}

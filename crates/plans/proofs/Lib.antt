@@ -2,3 +2,5 @@
 pub mod Line
 pub mod Bits
 pub mod Holding
+pub mod Unique
+pub mod Parts

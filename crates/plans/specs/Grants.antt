@@ -2,7 +2,7 @@
 use Prim.Native.Nat.{ℕ}
 use mathlib.Core.Path.{_≡_}
 use mathlib.Core.Bool.{Bool, _||_}
-use mathlib.Core.List.{List}
+use mathlib.Core.List.{List, [], _∷_, _++_}
 use lib.Bits.{bitOr}
 use Rattle.trade.specs.Bytes.{bit}
 use Rattle.trade.specs.Facts.{disturbsIn}
@@ -36,3 +36,18 @@ oneMore rows set t =
 -- own business
 unfoldable pub Holds : List ℕ → GrantSet → List Transmission → Type 0
 Holds rows set us = (t : Transmission) → Within rows t → clashesWith rows set t ≡ conflictsWith (disturbsIn rows) us t
+
+-- what `empty` owes: there are no grants, and the set holds none
+pub record Fresh (r : GrantSet) : Type 0 where
+  pub exact : r ≡ noGrants
+  pub holds : (rows : List ℕ) → Holds rows r []
+
+-- what `clashes` owes: the set's test, which says whether the transmission conflicts with one of the grants that the set holds
+pub record Asked (rows : List ℕ) (set : GrantSet) (t : Transmission) (r : Bool) : Type 0 where
+  pub exact : r ≡ clashesWith rows set t
+  pub conflicts : (us : List Transmission) → Holds rows set us → r ≡ conflictsWith (disturbsIn rows) us t
+
+-- what `with` owes: the set holds the grants that it held, and after them the new one
+pub record Grown (rows : List ℕ) (set : GrantSet) (t : Transmission) (r : GrantSet) : Type 0 where
+  pub exact : r ≡ oneMore rows set t
+  pub holds : (us : List Transmission) → Holds rows set us → Holds rows r (us ++ (t ∷ []))

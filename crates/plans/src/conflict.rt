@@ -5,7 +5,7 @@ ghost use lib.ListN.{length};
 ghost use Rattle.trade.specs.Limits.{rowBytes};
 ghost use Rattle.trade.specs.Facts.{disturbsIn};
 ghost use Rattle.trade.specs.Conflict.{meet, conflict};
-ghost use Rattle.plans.specs.Network.{InNetwork, Within};
+ghost use Rattle.plans.specs.Network.{Within};
 use trade::Node;
 use trade::Transmission;
 

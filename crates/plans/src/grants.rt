@@ -1,12 +1,6 @@
 // The grants of a slot, as a set that grows one transmission at a time.
-ghost use mathlib.Core.Path.{_≡_};
-ghost use Prim.Native.Nat.{ℕ};
-ghost use mathlib.Core.List.{List, [], _∷_, _++_};
-ghost use Rattle.trade.specs.Facts.{disturbsIn};
-ghost use Rattle.trade.specs.Conflict.{conflictsWith};
-ghost use Rattle.trade.specs.declared.node.Transmission.{Transmission};
 ghost use Rattle.plans.specs.Network.{Within};
-ghost use Rattle.plans.specs.Grants.{noGrants, clashesWith, oneMore, Holds};
+ghost use Rattle.plans.specs.Grants.{Fresh, Asked, Grown};
 use crate::mask::has;
 use crate::mask::only;
 use crate::mask::row_mask;
@@ -22,7 +16,7 @@ pub struct GrantSet {
 impl GrantSet {
     // No grants.
     pub fn empty() -> Self
-        ensures { λ r. ⌜ (r ≡ noGrants) × ((rows : List ℕ) → Holds rows r []) ⌝ }
+        ensures { λ r. ⌜ Fresh r ⌝ }
     {
         GrantSet {
             busy: 0,
@@ -34,7 +28,7 @@ impl GrantSet {
     // Whether a transmission conflicts with one of the grants.
     pub fn clashes(self, rows: &[u8], t: Transmission) -> bool
         requires { ⌜ Within (now rows) t ⌝ }
-        ensures { λ r. ⌜ (r ≡ clashesWith (now (rows .entry)) self t) × ((us : List Transmission) → Holds (now (rows .entry)) self us → r ≡ conflictsWith (disturbsIn (now (rows .entry))) us t) ⌝ }
+        ensures { λ r. ⌜ Asked (now (rows .entry)) self t r ⌝ }
     {
         has(self.busy, t.sender)
             | has(self.busy | self.disturbed, t.receiver)
@@ -44,7 +38,7 @@ impl GrantSet {
     // The grants and one more.
     pub fn with(self, rows: &[u8], t: Transmission) -> Self
         requires { ⌜ Within (now rows) t ⌝ }
-        ensures { λ r. ⌜ (r ≡ oneMore (now (rows .entry)) self t) × ((us : List Transmission) → Holds (now (rows .entry)) self us → Holds (now (rows .entry)) r (us ++ (t ∷ []))) ⌝ }
+        ensures { λ r. ⌜ Grown (now (rows .entry)) self t r ⌝ }
     {
         GrantSet {
             busy: self.busy | only(t.sender) | only(t.receiver),

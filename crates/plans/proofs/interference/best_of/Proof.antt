@@ -1,5 +1,5 @@
 -- `plans::interference::best_of` is the larger of two figures. Assumes nothing.
-use mathlib.Core.Path.{sym, _∙_, ap}
+use mathlib.Core.Path.{sym}
 use native.Mathlib.Omega.{arith}
 use native.Mathlib.Nat.{max-eq-left, max-eq-right}
 use borrow.Author.Needs.{needs}

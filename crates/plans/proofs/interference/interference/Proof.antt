@@ -1,6 +1,6 @@
 -- `plans::interference::interference` works the steps of h into the line, the last first. The loop's invariant: the line holds the worst
 -- counts over the steps of h from j on. The measure is j. Assumes nothing.
-use Prim.Native.Nat.{ℕ, suc, _-_}
+use Prim.Native.Nat.{suc, _-_}
 use mathlib.Core.Path.{_≡_}
 use native.Mathlib.Omega.{arith}
 use Rattle.plans.specs.Line.{stepsIn, marksOf}

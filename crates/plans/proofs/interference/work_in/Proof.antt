@@ -1,7 +1,7 @@
 -- `plans::interference::work_in` works one column into the line, the marks asked of a set that holds the one step of h. The loop's
 -- invariant: the steps of l from i on have their figures, those before i and those past the plan are as lent. The measure is i.
 -- Assumes nothing.
-use Prim.Native.Nat.{ℕ, suc, _-_, _<_}
+use Prim.Native.Nat.{ℕ, suc, _-_}
 use mathlib.Core.Path.{_≡_}
 use mathlib.Core.List.{[]}
 use native.Mathlib.Omega.{arith}
@@ -64,7 +64,7 @@ loop-again c =
     let k : ℕ = loop .i - 1 in
     let e : loop .i ≡ suc k = omega arith in
     working-more _ _ _ _ _ k (rw e at (loop .inv)) (omega (arith, loop .inv .size, start .pre .3 .size)) _
-    (rw (c .best-of .ensures, c .before .clashes .ensures .0, c .before .before .step-at .ensures))
+    (rw (c .best-of .ensures, c .before .clashes .ensures .exact, c .before .before .step-at .ensures))
 
 returns : tie.Need-returns Inv-loop μ-loop
 returns c =
@@ -72,7 +72,7 @@ returns c =
     let held = c .before .before .with in
     let loop = c .before .loop in
     let e : loop .i ≡ 0 = omega arith in
-    let holds = held .ensures .1 [] (c .before .before .before .empty .ensures .1 _) in
+    let holds = held .ensures .holds [] (c .before .before .before .empty .ensures .holds _) in
     worked-cong _ _ _ _ _
     (λ k h. holds-one (start .args .rows .now) (held .result) (start .args .u) (stepIn (start .args .l .now) k) holds (start .pre .2 k (omega arith)))
     (working-worked _ _ _ _ _ (rw e at (loop .inv)))

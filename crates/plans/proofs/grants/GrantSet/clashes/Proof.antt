@@ -20,7 +20,10 @@ returns c =
     let first = c .before .before .before .before .has .ensures in
     let second = c .before .before .has2 .ensures in
     let row = c .before .row-mask .ensures in
-    (rw (first, second, row), λ us h. rw (first, second, row) (h (start .args .t) (start .pre)))
+    record {
+      exact = rw (first, second, row);
+      conflicts = λ us h. rw (first, second, row) (h (start .args .t) (start .pre));
+    }
 
 pub clashes-spec : {M : Type 1} → statement M
 clashes-spec = tie.close (tie.spec has-requires has-requires-2 row-mask-requires returns)

@@ -5,7 +5,7 @@ use Rattle.plans.proofs.grants.GrantSet.empty.Statement.{statement}
 use Rattle.plans.proofs.grants.GrantSet.empty.Tie as tie
 
 returns : tie.Need-returns
-returns c = (refl, holds-none)
+returns c = record { exact = refl; holds = holds-none }
 
 pub empty-spec : {M : Type 1} → statement M
 empty-spec = tie.close (tie.spec returns)

@@ -26,12 +26,14 @@ returns c =
     let sender = c .before .before .before .before .before .before .only .ensures in
     let receiver = c .before .before .before .before .only2 .ensures in
     let row = c .before .before .before .row-mask .ensures in
-    let again = c .before .only3 .ensures in (
-      rw (sender, receiver, row, again),
-      λ us h.
+    let again = c .before .only3 .ensures in
+    record {
+      exact = rw (sender, receiver, row, again);
+      holds =
+          λ us h.
           rw (sender, receiver, row, again)
-          (holds-more (start .args .rows .now) (λ i. omega (arith, known .given i)) (start .args .self) us (start .args .t) (start .pre) h),
-    )
+          (holds-more (start .args .rows .now) (λ i. omega (arith, known .given i)) (start .args .self) us (start .args .t) (start .pre) h);
+    }
 
 pub with-spec : {M : Type 1} → statement M
 with-spec =

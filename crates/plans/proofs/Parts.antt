@@ -1,0 +1,89 @@
+-- A plan as a part of a steps section: its steps are those of the section, its length is the plan's, and the interference of two such
+-- parts is that of the two flows. Leans on the trade's Sums. Assumes nothing.
+use Prim.Native.Nat.{ℕ, zero, suc, _+_, _-_, _*_, _≤_, _<_}
+use mathlib.Core.Path.{_≡_, refl, sym, _∙_, ap, ap₂}
+use mathlib.Core.List.{List}
+use native.Mathlib.Omega.{arith}
+use lib.ListN.{length, length-drop}
+use lib.Seq.{getD-take, getD-drop, length-take-le}
+use Rattle.trade.specs.Limits.{stepBytes}
+use Rattle.trade.specs.Bytes.{byte, part}
+use Rattle.trade.specs.Layout.{Sections}
+use Rattle.trade.specs.Facts.{factsOf, disturbsIn, stepIn, firstStep, stepOf}
+use Rattle.trade.specs.Conflict.{conflict}
+use Rattle.trade.specs.Interference.{Matrix, one, worst, worstPath, matrix, interference}
+use Rattle.trade.specs.declared.node.Transmission.{Transmission}
+use Rattle.trade.proofs.Sums.{largest-cong}
+use Rattle.plans.specs.Network.{Within, AllWithin}
+use Rattle.plans.specs.Line.{stepsIn, marksOf}
+
+-- matrices that agree at every step of l and of h have the same worst path
+worst-agree :
+    (marks other : Matrix) (rows columns : ℕ)
+    → ((i j : ℕ) → i < rows → j < columns → marks i j ≡ other i j)
+    → (i j k : ℕ)
+    → j + k ≤ columns
+    → worst marks rows i j k ≡ worst other rows i j k
+unfolding worst
+worst-agree marks other rows columns e i j zero h = refl
+worst-agree marks other rows columns e i j (suc k) h =
+    largest-cong (λ (c : ℕ). one (marks c j) + worst marks rows c (suc j) k) (λ (c : ℕ). one (other c j) + worst other rows c (suc j) k) i (rows - i)
+    (λ c l u. ap₂ _+_ (ap one (e c j (omega arith) (omega arith))) (worst-agree marks other rows columns e c (suc j) k (omega arith)))
+
+pub paths-agree :
+    (marks other : Matrix) (rows columns : ℕ)
+    → ((i j : ℕ) → i < rows → j < columns → marks i j ≡ other i j)
+    → worstPath marks rows columns ≡ worstPath other rows columns
+unfolding worstPath
+paths-agree marks other rows columns e = worst-agree marks other rows columns e 0 0 columns (omega arith)
+
+-- from one node to another
+abbrev sent : ℕ → ℕ → Transmission
+sent a b = record { sender = record { 0 = a }; receiver = record { 0 = b } }
+
+module _ (steps : List ℕ) (first count : ℕ) where
+  -- the part of a steps section that holds so many steps from one on
+  abbrev pub planIn : List ℕ
+  planIn = part (stepBytes * first) (stepBytes * count) steps
+
+  byte-plan : (at : ℕ) → at < stepBytes * count → byte planIn at ≡ byte steps (stepBytes * first + at)
+  unfolding part
+  byte-plan at h = rw (getD-take, getD-drop)
+
+  pub step-plan : (k : ℕ) → k < count → stepIn planIn k ≡ stepIn steps (first + k)
+  unfolding stepIn
+  step-plan k h =
+      ap₂ sent (byte-plan (stepBytes * k) (omega arith) ∙ ap (byte steps) (omega arith))
+      (byte-plan (stepBytes * k + 1) (omega arith) ∙ ap (byte steps) (omega arith))
+
+  module _ (fits : stepBytes * (first + count) ≤ length steps) where
+    length-plan : length planIn ≡ stepBytes * count
+    unfolding part
+    length-plan = length-take-le _ _ (rw length-drop (omega arith))
+
+    pub steps-plan : stepsIn planIn ≡ count
+    steps-plan = rw length-plan (omega arith)
+
+    pub within-plan : (rows : List ℕ) → ((k : ℕ) → k < first + count → Within rows (stepIn steps k)) → AllWithin rows planIn
+    within-plan rows all k h = let l : k < count = omega (arith, length-plan) in rw (step-plan k l) (all (first + k) (omega arith))
+
+-- the part of the steps section that holds plan i, and that the section is long enough for it
+abbrev pub planOf : Sections → ℕ → List ℕ
+planOf s i = planIn (s .steps) (firstStep (factsOf s) i) (factsOf s .len i)
+
+abbrev pub Whole : Sections → ℕ → Type 0
+Whole s i = stepBytes * (firstStep (factsOf s) i + factsOf s .len i) ≤ length (s .steps)
+
+-- I(l,h) is the worst path through the matrix of the two plans, read out of the sections
+pub interference-plans :
+    (s : Sections) (l h : ℕ)
+    → Whole s l
+    → Whole s h
+    → interference (factsOf s) l h ≡ worstPath (marksOf (s .rows) (planOf s l) (planOf s h)) (stepsIn (planOf s l)) (stepsIn (planOf s h))
+unfolding interference matrix factsOf stepOf
+interference-plans s l h p q =
+    rw (steps-plan (s .steps) (firstStep (factsOf s) l) (factsOf s .len l) p, steps-plan (s .steps) (firstStep (factsOf s) h) (factsOf s .len h) q)
+    (paths-agree (matrix (factsOf s) l h) (marksOf (s .rows) (planOf s l) (planOf s h)) (factsOf s .len l) (factsOf s .len h)
+    (λ i j u v.
+    ap₂ (conflict (disturbsIn (s .rows))) (sym (step-plan (s .steps) (firstStep (factsOf s) l) (factsOf s .len l) i u))
+    (sym (step-plan (s .steps) (firstStep (factsOf s) h) (factsOf s .len h) j v))))

@@ -4,3 +4,4 @@ pub mod parts;
 pub mod records;
 pub mod rows;
 pub mod steps;
+pub mod table;

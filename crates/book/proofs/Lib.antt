@@ -4,3 +4,4 @@ pub mod BadRow
 pub mod BadRecord
 pub mod BadStep
 pub mod Frames
+pub mod Pasting

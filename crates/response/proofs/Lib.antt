@@ -1,4 +1,7 @@
 -- Laws about the definitions of specs/, and the theorem about waiting.
 pub mod Cases
-pub mod SumTo
 pub mod One
+pub mod SumTo
+pub mod Often
+pub mod Acting
+pub mod Window

@@ -5,3 +5,5 @@ pub mod SumTo
 pub mod Often
 pub mod Acting
 pub mod Window
+pub mod Ceil
+pub mod Counting

@@ -7,3 +7,5 @@ pub mod Acting
 pub mod Window
 pub mod Ceil
 pub mod Counting
+pub mod Steady
+pub mod Waiting

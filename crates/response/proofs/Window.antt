@@ -10,7 +10,7 @@ use lib.Dec.{ltb}
 use borrow.Author.Tests.{ltb-true, ltb-false, lt-ltb}
 use Rattle.trade.specs.First.{sumTo}
 use Rattle.trade.specs.Interference.{Matrix, one}
-use Rattle.response.specs.Course.{Course, often, waiting, acting}
+use Rattle.response.specs.Course.{Course, often, waiting, acting, after}
 use Rattle.response.specs.Window.{Potential, Blocks, Window}
 use Rattle.response.proofs.Cases.{by-test, by-order, both-left, both-right, never-rises}
 use Rattle.response.proofs.One.{one-holds, one-fails}
@@ -52,8 +52,7 @@ module _
   (r w : ℕ)
   (unfinished : (t : ℕ) → r ≤ t → t < r + w → l .done t < l .len)
   (onward : (t : ℕ) → r ≤ t → suc t < r + w → l .done t ≤ l .done (suc t))
-  (goes-on :
-      (t : ℕ) → r ≤ t → suc t < r + w → h .released (suc t) ≡ false → h .done t + one (h .goes t) ≤ h .done (suc t))
+  (goes-on : (t : ℕ) → r ≤ t → suc t < r + w → h .released (suc t) ≡ false → after h t ≤ h .done (suc t))
   where
 
   -- the potential never rises as h goes on
@@ -67,7 +66,8 @@ module _
   paid :
       (t : ℕ)
       → l .done t < l .len
-      → one (charged marks l h t) + F (l .done t) (h .done t + one (h .goes t)) ≤ F (l .done t) (h .done t)
+      → one (charged marks l h t) + F (l .done t) (after h t) ≤ F (l .done t) (h .done t)
+  unfolding after
   paid t i< =
       by-test (charged marks l h t)
       (λ e.
@@ -75,7 +75,7 @@ module _
         let pay : one (marks (l .done t) (h .done t)) + F (l .done t) (suc (h .done t)) ≤ F (l .done t) (h .done t)
             = p .pays (l .done t) (h .done t) i< (b .unfinished) in
         rw (one-holds e, one-holds (b .goes), add-one) (omega (arith, rw (one-holds (b .marked)) at pay)))
-      (λ e. omega (arith, one-fails e, lower (l .done t) (h .done t) (h .done t + one (h .goes t)) i< (omega arith)))
+      (λ e. omega (arith, one-fails e, lower (l .done t) (h .done t) (after h t) i< (omega arith)))
 
   -- from one slot to the next, only a release of h raises the potential, and by no more than its top
   slot-paid :
@@ -90,12 +90,12 @@ module _
       let j′ : ℕ = h .done (suc t) in
       let i< : i < l .len = unfinished t r≤ (omega arith) in
       let i′< : i′ < l .len = unfinished (suc t) (omega arith) t< in
-      let pay : one (charged marks l h t) + F i (h .done t + one (h .goes t)) ≤ F i (h .done t) = paid t i< in
+      let pay : one (charged marks l h t) + F i (after h t) ≤ F i (h .done t) = paid t i< in
       by-test (h .released (suc t))
       (λ e. rw (one-holds e, one-mul) (omega (arith, pay, p .starts i′, lower i′ 0 j′ i′< (omega arith))))
       (λ e.
         let down : F i′ j′ ≤ F i j′ = never-rises (λ n. F n j′) (λ n. p .falls n j′) i i′ (onward t r≤ t<) in
-        omega (arith, pay, down, lower i (h .done t + one (h .goes t)) j′ i< (goes-on t r≤ t< e)))
+        omega (arith, pay, down, lower i (after h t) j′ i< (goes-on t r≤ t< e)))
 
   -- charges so far and the potential are at most the top for each instance so far
   charges :

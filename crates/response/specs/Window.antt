@@ -4,7 +4,7 @@ use Prim.Native.Nat.{ℕ, suc, _+_, _≤_, _<_}
 use mathlib.Core.Path.{_≡_}
 use mathlib.Core.Bool.{true, false}
 use Rattle.trade.specs.Interference.{Matrix, one}
-use Rattle.response.specs.Course.{Course}
+use Rattle.response.specs.Course.{Course, after}
 
 -- a potential at step i of a flow with so many rows and step j of a flow with so many columns: it never rises as the first goes on, it
 -- pays for each conflict as the second goes on, it starts at no more than its top, and it ends at 0
@@ -32,5 +32,5 @@ pub record Window (l : Course) (count : ℕ) (others : ℕ → Course) (marks : 
       → r ≤ t
       → suc t < r + w
       → others h .released (suc t) ≡ false
-      → others h .done t + one (others h .goes t) ≤ others h .done (suc t)
+      → after (others h) t ≤ others h .done (suc t)
   pub blocked : (t : ℕ) → r ≤ t → t < r + w → l .goes t ≡ false → (h : ℕ) × (h < count) × Blocks (marks h) l (others h) t

@@ -9,3 +9,4 @@ pub mod Ceil
 pub mod Counting
 pub mod Steady
 pub mod Waiting
+pub mod Worst

@@ -1,7 +1,7 @@
 -- Case splits that keep their equation, on a test and on the order of two numbers. Assumes nothing.
 use Prim.Native.Nat.{ℕ, zero, suc, _≤_, _<_}
 use mathlib.Core.Path.{_≡_, refl}
-use mathlib.Core.Bool.{Bool, true, false, _&&_, false≢true}
+use mathlib.Core.Bool.{Bool, true, false, _&&_, _||_, true≢false, false≢true}
 use native.Mathlib.Omega.{arith}
 use lib.Dec.{leb}
 use borrow.Author.Tests.{leb-true, leb-false}
@@ -23,6 +23,20 @@ both-left false b e = e
 pub both-right : (a b : Bool) → (a && b) ≡ true → b ≡ true
 both-right true b e = e
 both-right false b e = absurd (false≢true e)
+
+-- neither of two tests holds
+pub neither-left : (a b : Bool) → (a || b) ≡ false → a ≡ false
+neither-left true b e = e
+neither-left false b e = refl
+
+pub neither-right : (a b : Bool) → (a || b) ≡ false → b ≡ false
+neither-right true b e = absurd (true≢false e)
+neither-right false b e = e
+
+-- one of two tests holds
+pub by-either : {A : Type 0} (a b : Bool) → (a || b) ≡ true → (a ≡ true → A) → (b ≡ true → A) → A
+by-either true b e first second = first refl
+by-either false b e first second = second e
 
 -- a figure that never rises is nowhere larger than before
 pub never-rises : (g : ℕ → ℕ) → ((n : ℕ) → g (suc n) ≤ g n) → (a b : ℕ) → a ≤ b → g b ≤ g a

@@ -10,3 +10,6 @@ pub mod Counting
 pub mod Steady
 pub mod Waiting
 pub mod Worst
+pub mod Conflict
+pub mod Among
+pub mod Going

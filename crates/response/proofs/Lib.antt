@@ -13,3 +13,8 @@ pub mod Worst
 pub mod Conflict
 pub mod Among
 pub mod Going
+pub mod Granted
+pub mod Released
+pub mod First
+pub mod Run
+pub mod Promise

@@ -3,3 +3,4 @@ pub mod Course
 pub mod Window
 pub mod Counting
 pub mod Waiting
+pub mod Promise

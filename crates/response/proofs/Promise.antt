@@ -22,7 +22,7 @@ use Rattle.response.proofs.One.{one-holds}
 use Rattle.response.proofs.First.{first-holds, first-least}
 use Rattle.response.proofs.Steady.{Quiet, Latest, Step, latest, done-counts, after-counts, done-grows, after-grows, find-step}
 use Rattle.response.proofs.Worst.{worst-potential}
-use Rattle.response.proofs.Waiting.{finished-in-time, never-met}
+use Rattle.response.proofs.Waiting.{bound-positive, period-positive, finished-in-time, never-met}
 use Rattle.response.proofs.Released.{released-late, release-comes, released-apart, instance-released, instance-latest, instance-within}
 use Rattle.response.proofs.Run.{run-slot, run-done, run-start, run-steady, run-running}
 
@@ -98,4 +98,136 @@ module _ (f : Facts) (firsts : ℕ → ℕ) (l : ℕ) (positive : 1 ≤ f .perio
 
   -- each grant is due
   pub granted-due : (t : ℕ) → among (granted f firsts (runTo f firsts t)) l ≡ true → Due f firsts l t
-  granted-due t m = ?due
+  unfolding courseOf
+  granted-due t m =
+      let v : ℕ = instanceAt f firsts t l in
+      let r : ℕ = releaseAt f firsts l v in
+      let begun : firsts l ≤ t = granted-begun t m in
+      let low : r ≤ t = instance-released f firsts l positive t begun in
+      let high : t < r + f .period l = instance-latest f firsts l positive t in
+      let now : r + (t - r) ≡ t = add-sub-of-le low in
+      let counts : doneNow f firsts (runTo f firsts t) l ≡ courseOf f firsts l .done r + often (courseOf f firsts l .goes) r (t - r)
+          = rw now at (done-counts (courseOf f firsts l) (run-steady f firsts l) r (t - r) (quiet-within v (r + (t - r)) (omega arith))) in
+      let anew : courseOf f firsts l .done r ≡ 0 = run-steady f firsts l .anew r (release-comes f firsts l v) in
+      record {
+        begun = begun;
+        released = low;
+        next =
+            λ k k<.
+            let (u, from, before, g) = instance-steps v (t - r) (omega arith) k (omega arith) in
+            (u, from, omega arith, g);
+      }
+
+  -- flow l goes with step k, so many slots after slot r
+  goes-with : ℕ → ℕ → ℕ → Bool
+  goes-with r k d = courseOf f firsts l .goes (r + d) && eqb (courseOf f firsts l .done (r + d)) k
+
+  -- the first slot, among the n from the release of instance v on, in which it goes with step k
+  slot-of : ℕ → ℕ → ℕ → ℕ
+  slot-of v n k = releaseAt f firsts l v + first (goes-with (releaseAt f firsts l v) k) n
+
+  -- that slot is one in which the step is granted
+  slot-granted :
+      (v n : ℕ)
+      → n ≤ f .period l
+      → (k : ℕ)
+      → k < often (courseOf f firsts l .goes) (releaseAt f firsts l v) n
+      → (slot-of v n k < releaseAt f firsts l v + n) × Granted f firsts l v k (slot-of v n k)
+  unfolding courseOf slot-of goes-with
+  slot-granted v n n≤ k k< =
+      let r : ℕ = releaseAt f firsts l v in
+      let (u, from, before, g) = instance-steps v n n≤ k k< in
+      let now : r + (u - r) ≡ u = add-sub-of-le from in
+      let there : goes-with r k (u - r) ≡ true
+          = rw (now, g .goes, eq-eqb (doneNow f firsts (runTo f firsts u) l) k (g .step)) in
+      let d : ℕ = first (goes-with r k) n in
+      let least : d ≤ u - r = first-least (goes-with r k) n (u - r) (omega arith) there in
+      let here : goes-with r k d ≡ true = first-holds (goes-with r k) n (u - r) (omega arith) there in
+      let goes : Bool = among (granted f firsts (runTo f firsts (r + d))) l in
+      let done : ℕ = doneNow f firsts (runTo f firsts (r + d)) l in
+      (omega arith,
+      record {
+        goes = both-left goes (eqb done k) here;
+        step = eqb-true done k (both-right goes (eqb done k) here);
+        instance = instance-within f firsts l positive v (r + d) (omega arith) (omega arith);
+      })
+
+  -- an instance that does all its steps in R slots, within its period, keeps to R
+  pub steps-kept :
+      (v R : ℕ)
+      → R ≤ f .period l
+      → often (courseOf f firsts l .goes) (releaseAt f firsts l v) R ≡ f .len l
+      → Kept f firsts l v R
+  unfolding courseOf slot-of
+  steps-kept v R R≤ all =
+      record {
+        slot = slot-of v R;
+        granted = λ k k<. slot-granted v R R≤ k (omega arith) .1;
+        released = λ k k<. omega arith;
+        within = λ k k<. slot-granted v R R≤ k (omega arith) .0;
+        ordered =
+            λ k n k< n<.
+            let (k-before, gk) = slot-granted v R R≤ k (omega arith) in
+            let (n-before, gn) = slot-granted v R R≤ n (omega arith) in
+            by-order (slot-of v R n) (slot-of v R k)
+            (λ back.
+              absurd
+              (omega
+              (arith,
+                gk .step,
+                gn .step,
+                done-grows (courseOf f firsts l) (run-steady f firsts l) (slot-of v R n) (slot-of v R k) back
+                (λ u u>. quiet-within v (slot-of v R k) (omega arith) u (omega arith)))))
+            (λ on. on);
+      }
+
+-- what bounds promise
+module _
+  (f : Facts)
+  (firsts carry R : ℕ → ℕ)
+  (bounds : Bounded (f .flows) (f .len) (f .period) carry (interference f) R)
+  where
+
+  run-in-time : InTime (f .flows) (courseOf f firsts) R
+  unfolding courseOf interference
+  run-in-time =
+      finished-in-time (f .flows) (courseOf f firsts) (f .period) (matrix f) (run-running f firsts) carry (interference f) R bounds
+      (λ l h i j. worst (matrix f l h) (f .len l) i j (f .len h - j))
+      (λ l h l< h<. worst-potential (matrix f l h) (f .len l) (f .len h))
+
+  run-never-met : NeverMet (f .flows) (courseOf f firsts)
+  unfolding courseOf interference
+  run-never-met =
+      never-met (f .flows) (courseOf f firsts) (f .period) (matrix f) (run-running f firsts) carry (interference f) R bounds
+      (λ l h i j. worst (matrix f l h) (f .len l) i j (f .len h - j))
+      (λ l h l< h<. worst-potential (matrix f l h) (f .len l) (f .len h))
+
+  -- no release meets an unfinished instance
+  pub never-overrun : (t l : ℕ) → l < f .flows → released f firsts t l ≡ true → runTo f firsts t .done l ≡ f .len l
+  unfolding courseOf
+  never-overrun zero l l< e = run-start f firsts l
+  never-overrun (suc t) l l< e = run-done f firsts t l ∙ run-never-met l t l< e
+
+  -- each instance is finished R slots after its release
+  pub finished : (l v : ℕ) → l < f .flows → runTo f firsts (releaseAt f firsts l v + R l) .done l ≡ f .len l
+  unfolding courseOf
+  finished l v l< =
+      let r : ℕ = releaseAt f firsts l v in
+      let e : suc (r + R l - 1) ≡ r + R l = omega (arith, bound-positive bounds l l<) in
+      rw (sym e) (run-done f firsts (r + R l - 1) l ∙ run-in-time l r l< (release-comes f firsts l v) (r + R l - 1) e)
+
+  -- and each of its steps is granted within these slots
+  pub kept : (l v : ℕ) → l < f .flows → Kept f firsts l v (R l)
+  unfolding courseOf
+  kept l v l< =
+      let positive : 1 ≤ f .period l = period-positive bounds l l< in
+      let r : ℕ = releaseAt f firsts l v in
+      let last : suc (R l - 1) ≡ R l = omega (arith, bound-positive bounds l l<) in
+      let ends : R l ≤ f .period l = bounds .ends l l< in
+      let quiet : Quiet (courseOf f firsts l) r (r + (R l - 1)) = quiet-within f firsts l positive v (r + (R l - 1)) (omega arith) in
+      steps-kept f firsts l positive v (R l) ends
+      (omega
+      (arith,
+        run-steady f firsts l .anew r (release-comes f firsts l v),
+        run-in-time l r l< (release-comes f firsts l v) (r + (R l - 1)) (omega arith),
+        rw last at (after-counts (courseOf f firsts l) (run-steady f firsts l) r (R l - 1) quiet)))

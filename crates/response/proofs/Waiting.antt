@@ -18,6 +18,23 @@ use Rattle.response.proofs.Window.{window-lemma}
 use Rattle.response.proofs.Counting.{counting-lemma}
 use Rattle.response.proofs.Steady.{Quiet, Latest, after-within, done-after, after-counts, done-grows, after-grows, after-stays, latest}
 
+-- a bound is at least one slot, and so is a period
+pub bound-positive :
+    {m : ℕ} {len period carry : ℕ → ℕ} {top : ℕ → ℕ → ℕ} {R : ℕ → ℕ}
+    → Bounded m len period carry top R
+    → (l : ℕ)
+    → l < m
+    → 1 ≤ R l
+bound-positive bounds l l< = omega (arith, bounds .plan l l<, bounds .enough l l<)
+
+pub period-positive :
+    {m : ℕ} {len period carry : ℕ → ℕ} {top : ℕ → ℕ → ℕ} {R : ℕ → ℕ}
+    → Bounded m len period carry top R
+    → (l : ℕ)
+    → l < m
+    → 1 ≤ period l
+period-positive bounds l l< = omega (arith, bound-positive bounds l l<, bounds .ends l l<)
+
 module _
   (m : ℕ)
   (flow : ℕ → Course)
@@ -31,13 +48,6 @@ module _
   (F : ℕ → ℕ → ℕ → ℕ → ℕ)
   (potential : (l h : ℕ) → l < m → h < l → Potential (marks l h) (flow l .len) (flow h .len) (top l h) (F l h))
   where
-
-  -- a bound is at least one slot
-  bound-positive : (l : ℕ) → l < m → 1 ≤ R l
-  bound-positive l l< = omega (arith, bounds .plan l l<, bounds .enough l l<)
-
-  period-positive : (l : ℕ) → l < m → 1 ≤ period l
-  period-positive l l< = omega (arith, bound-positive l l<, bounds .ends l l<)
 
   -- no release of a flow falls into the bound of another
   bound-quiet : (l r t : ℕ) → l < m → flow l .released r ≡ true → suc t ≡ r + R l → Quiet (flow l) r t
@@ -56,7 +66,7 @@ module _
       let q : Latest (flow h) r = latest (flow h) (run .steady h h<) r left in
       by-order (q .slot + carry h) r
       (λ old.
-        let positive : 1 ≤ R h = bound-positive h h< in
+        let positive : 1 ≤ R h = bound-positive bounds h h< in
         let bounded : R h ≤ carry h = bounds .carried h h< in
         let end : ℕ = q .slot + R h - 1 in
         let finished : after (flow h) end ≡ flow h .len = in-time h (q .slot) h< (q .at) end (omega arith) (omega arith) in
@@ -100,14 +110,14 @@ module _
         (window-lemma (flow l) l flow (marks l) r (R l) its-window (top l) (F l) (λ h h<. potential l h l< h<))
         (sum-mono (λ h. acting (flow h) r (R l) * top l h) (λ h. instances (R l) (carry h) (period h) * top l h) l
         (λ h h<. mul-le-mul-right (top l h)
-          (counting-lemma (flow h) (period h) (carry h) r (R l) (period-positive h (omega arith)) (bound-positive l l<)
-          (run .apart h (omega arith)) (carried-in T in-time h r (omega arith) (omega (arith, bound-positive l l<))))))
+          (counting-lemma (flow h) (period h) (carry h) r (R l) (period-positive bounds h (omega arith)) (bound-positive bounds l l<)
+          (run .apart h (omega arith)) (carried-in T in-time h r (omega arith) (omega (arith, bound-positive bounds l l<))))))
 
     -- the slots that are left to it hold its plan
     never-late : ⊥
     never-late =
-        let e₁ : r + (R l - 1) ≡ T = omega (arith, bound-positive l l<) in
-        let e₂ : suc (R l - 1) ≡ R l = omega (arith, bound-positive l l<) in
+        let e₁ : r + (R l - 1) ≡ T = omega (arith, bound-positive bounds l l<) in
+        let e₂ : suc (R l - 1) ≡ R l = omega (arith, bound-positive bounds l l<) in
         omega
         (arith,
           its-waiting,
@@ -139,10 +149,10 @@ module _
         let steady : Steady (flow l) = run .steady l l< in
         let q : Latest (flow l) t = latest (flow l) steady t (omega (arith, done-after (flow l) steady t)) in
         let end : ℕ = q .slot + R l - 1 in
-        let end≡ : suc end ≡ q .slot + R l = omega (arith, bound-positive l l<) in
+        let end≡ : suc end ≡ q .slot + R l = omega (arith, bound-positive bounds l l<) in
         let end≤ : end ≤ t = omega (arith, run .apart l l< (q .slot) (suc t) (q .at) e (omega arith), bounds .ends l l<) in
         absurd
         (omega
         (arith,
           finished-in-time l (q .slot) l< (q .at) end end≡,
-          after-stays (flow l) steady end t end≤ (λ u u>. q .quiet u (omega (arith, bound-positive l l<))))))
+          after-stays (flow l) steady end t end≤ (λ u u>. q .quiet u (omega (arith, bound-positive bounds l l<))))))

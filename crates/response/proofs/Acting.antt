@@ -1,12 +1,12 @@
 -- Laws of `acting`, the count of a flow's instances that act in a window. Assumes nothing.
 use Prim.Native.Nat.{ℕ, suc, _+_}
-use mathlib.Core.Path.{_≡_, refl}
+use mathlib.Core.Path.{_≡_}
 use native.Mathlib.Omega.{arith}
 use native.Mathlib.Nat.{suc-add}
 use native.Mathlib.Numerals.{sub-one}
 use lib.Dec.{ltb}
 use Rattle.trade.specs.Interference.{one}
-use Rattle.response.specs.Course.{Course, often, acting}
+use Rattle.response.specs.Course.{Course, acting}
 use Rattle.response.proofs.Often.{often-none, often-suc}
 
 -- in a window of one slot, the instance that is unfinished there

@@ -47,9 +47,9 @@ module _ (disturbs : ℕ → ℕ → Bool) (next : ℕ → Transmission) (t : Tr
   conflicts-none (i ∷ is) h e m =
       by-either (eqb i h) (among is h) m
       (λ q.
-        rw (eqb-true i h q) at (neither-left (conflict disturbs (next i) t) (conflictsWith disturbs (map next is) t) e))
+      rw (eqb-true i h q) at (neither-left (conflict disturbs (next i) t) (conflictsWith disturbs (map next is) t) e))
       (λ later.
-        conflicts-none is h (neither-right (conflict disturbs (next i) t) (conflictsWith disturbs (map next is) t) e) later)
+      conflicts-none is h (neither-right (conflict disturbs (next i) t) (conflictsWith disturbs (map next is) t) e) later)
 
   pub conflicts-some :
       (is : List ℕ) → conflictsWith disturbs (map next is) t ≡ true → (h : ℕ) × (among is h ≡ true) × (conflict disturbs (next h) t ≡ true)

@@ -3,7 +3,6 @@ use Prim.Native.Nat.{ℕ, zero, suc, _+_, _≤_, _<_}
 use mathlib.Core.Path.{_≡_, sym, ap, _∙_}
 use mathlib.Core.Bool.{Bool, true, false, true≢false}
 use native.Mathlib.Omega.{arith}
-use native.Mathlib.Nat.{add-zero, add-suc, suc-add}
 use Rattle.trade.specs.First.{firstFrom, first}
 use Rattle.response.proofs.Cases.{by-test, by-order}
 
@@ -22,10 +21,10 @@ module _ (test : ℕ → Bool) where
   found i (suc k) j i≤ j< e =
       by-test (test i) (λ here. rw (first-here i k here) (here, i≤))
       (λ not-here.
-        rw (first-later i k not-here)
-        (found (suc i) k j
-        (by-order j i (λ j≤. let q : j ≡ i = omega arith in absurd (true≢false (sym e ∙ ap test q ∙ not-here))) (λ i<. i<))
-        (omega arith) e))
+      rw (first-later i k not-here)
+      (found (suc i) k j
+      (by-order j i (λ j≤. let q : j ≡ i = omega arith in absurd (true≢false (sym e ∙ ap test q ∙ not-here))) (λ i<. i<))
+      (omega arith) e))
 
   pub first-holds : (n j : ℕ) → j < n → test j ≡ true → test (first test n) ≡ true
   unfolding first

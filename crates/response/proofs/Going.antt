@@ -1,10 +1,10 @@
 -- Laws of `going`, the flows that go, by any rule of waiting. Assumes nothing.
 use Prim.Native.Nat.{ℕ, zero, suc, _+_, _≤_, _<_}
 use mathlib.Core.Path.{_≡_, refl, sym, _∙_}
-use mathlib.Core.Bool.{Bool, true, false, not, cond, _&&_, _||_, or-false}
+use mathlib.Core.Bool.{Bool, true, false, not, _&&_, or-false}
 use mathlib.Core.List.{List, [], _∷_, _++_}
 use native.Mathlib.Omega.{arith}
-use lib.Dec.{eqb, ltb, leb·suc-zero}
+use lib.Dec.{ltb, leb·suc-zero}
 use lib.ListN.{length, getD, length-append, List·getD-append}
 use lib.Seq.{getD-at}
 use borrow.Author.Tests.{ltb-true, lt-ltb, le-ltb, eq-eqb, ne-eqb, not-true, not-false}
@@ -33,21 +33,21 @@ module _ (waits : Rule) (work : ℕ → Bool) where
   among-going (suc k) i =
       by-test (goes k)
       (λ e.
-        rw (going-on k e, among-more, among-going k i)
-        (by-order k i
-        (λ k≤.
-          by-order i k
-          (λ i≤. let q : i ≡ k = omega arith in rw (q, le-ltb k k (omega arith), eq-eqb k k refl, lt-ltb k (suc k) (omega arith), e))
-          (λ k<. rw (le-ltb i k k≤, le-ltb i (suc k) k<, ne-eqb k i (λ q. omega arith))))
-        (λ i<. rw (lt-ltb i k i<, lt-ltb i (suc k) (omega arith), ne-eqb k i (λ q. omega arith), or-false))))
+      rw (going-on k e, among-more, among-going k i)
+      (by-order k i
+      (λ k≤.
+      by-order i k
+      (λ i≤. let q : i ≡ k = omega arith in rw (q, le-ltb k k (omega arith), eq-eqb k k refl, lt-ltb k (suc k) (omega arith), e))
+      (λ k<. rw (le-ltb i k k≤, le-ltb i (suc k) k<, ne-eqb k i (λ q. omega arith))))
+      (λ i<. rw (lt-ltb i k i<, lt-ltb i (suc k) (omega arith), ne-eqb k i (λ q. omega arith), or-false))))
       (λ e.
-        rw (going-past k e, among-going k i)
-        (by-order k i
-        (λ k≤.
-          by-order i k
-          (λ i≤. let q : i ≡ k = omega arith in rw (q, le-ltb k k (omega arith), lt-ltb k (suc k) (omega arith), e))
-          (λ k<. rw (le-ltb i k k≤, le-ltb i (suc k) k<)))
-        (λ i<. rw (lt-ltb i k i<, lt-ltb i (suc k) (omega arith)))))
+      rw (going-past k e, among-going k i)
+      (by-order k i
+      (λ k≤.
+      by-order i k
+      (λ i≤. let q : i ≡ k = omega arith in rw (q, le-ltb k k (omega arith), lt-ltb k (suc k) (omega arith), e))
+      (λ k<. rw (le-ltb i k k≤, le-ltb i (suc k) k<)))
+      (λ i<. rw (lt-ltb i k i<, lt-ltb i (suc k) (omega arith)))))
 
   -- a flow that goes is one of the first k, is unfinished, and is not held back by those above it
   pub going-below : (k i : ℕ) → among (going waits work k) i ≡ true → i < k
@@ -83,12 +83,12 @@ module _ (waits : Rule) (work : ℕ → Bool) where
   going-rising (suc k) a b a< b< =
       by-test (goes k)
       (λ e.
-        let is : List ℕ = going waits work k in
-        let b≤ : b < length is + 1 = rw (going-on k e, length-append) at b< in
-        rw (going-on k e, List·getD-append is (k ∷ []) 0 a (omega arith))
-        (by-order (suc b) (length is)
-        (λ inner. rw (List·getD-append is (k ∷ []) 0 b inner) (going-rising k a b a< inner))
-        (λ last. rw (getD-at is k [] 0 b (omega arith)) (going-below k (getD is a 0) (among-at is a (omega arith))))))
+      let is : List ℕ = going waits work k in
+      let b≤ : b < length is + 1 = rw (going-on k e, length-append) at b< in
+      rw (going-on k e, List·getD-append is (k ∷ []) 0 a (omega arith))
+      (by-order (suc b) (length is)
+      (λ inner. rw (List·getD-append is (k ∷ []) 0 b inner) (going-rising k a b a< inner))
+      (λ last. rw (getD-at is k [] 0 b (omega arith)) (going-below k (getD is a 0) (among-at is a (omega arith))))))
       (λ e. rw (going-past k e) (going-rising k a b a< (rw (going-past k e) at b<)))
 
   pub going-once :

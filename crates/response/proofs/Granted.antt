@@ -1,11 +1,9 @@
 -- Laws of `granted`, the flows that go by the greedy rule: they conflict with none of each other, and a flow left out conflicts with one
 -- above it. Assumes nothing.
-use Prim.Native.Nat.{ℕ, suc, _≤_, _<_}
-use mathlib.Core.Path.{_≡_, refl, sym, _∙_}
-use mathlib.Core.Bool.{Bool, true, false}
-use mathlib.Core.List.{List, map}
+use Prim.Native.Nat.{ℕ, _<_}
+use mathlib.Core.Path.{_≡_, sym, _∙_}
+use mathlib.Core.Bool.{true, false}
 use native.Mathlib.Omega.{arith}
-use lib.Dec.{ltb}
 use lib.ListN.{length, getD}
 use borrow.Author.Tests.{ltb-true, lt-ltb}
 use Rattle.trade.specs.Facts.{Facts}
@@ -81,11 +79,12 @@ module _ (f : Facts) (firsts : ℕ → ℕ) (s : State) where
   unfolding granted greedy unfinished nextStep matrix
   waits-for l l< left m =
       let held : greedy f firsts s (going (greedy f firsts s) (unfinished f firsts s) l) l ≡ true
-          = left-out (greedy f firsts s) (unfinished f firsts s) (f .flows) l l< (lt-ltb (doneNow f firsts s l) (f .len l) left) m in
+      = left-out (greedy f firsts s) (unfinished f firsts s) (f .flows) l l< (lt-ltb (doneNow f firsts s l) (f .len l) left) m in
       let (h, mh, c) = conflicts-some (f .disturbs) (nextStep f firsts s) (nextStep f firsts s l)
-          (going (greedy f firsts s) (unfinished f firsts s) l) held in
-      let h< : h < l = going-below (greedy f firsts s) (unfinished f firsts s) l h mh in
-      (h,
-      h<,
-      sym (going-above (greedy f firsts s) (unfinished f firsts s) l (f .flows) h h< (omega arith)) ∙ mh,
-      conflict-mutual (f .disturbs) (nextStep f firsts s l) (nextStep f firsts s h) ∙ c)
+      (going (greedy f firsts s) (unfinished f firsts s) l) held in
+      let h< : h < l = going-below (greedy f firsts s) (unfinished f firsts s) l h mh in (
+        h,
+        h<,
+        sym (going-above (greedy f firsts s) (unfinished f firsts s) l (f .flows) h h< (omega arith)) ∙ mh,
+        conflict-mutual (f .disturbs) (nextStep f firsts s l) (nextStep f firsts s h) ∙ c,
+      )

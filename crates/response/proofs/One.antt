@@ -1,8 +1,7 @@
 -- Laws of `one`, which counts a test as 1 or 0. Assumes nothing.
-use Prim.Native.Nat.{ℕ, _+_, _≤_}
-use mathlib.Core.Path.{_≡_, refl, ap, _∙_}
+use Prim.Native.Nat.{_+_}
+use mathlib.Core.Path.{_≡_, refl}
 use mathlib.Core.Bool.{Bool, true, false, not}
-use native.Mathlib.Omega.{arith}
 use Rattle.trade.specs.Interference.{one}
 
 pub one-holds : {b : Bool} → b ≡ true → one b ≡ 1

@@ -1,21 +1,20 @@
 -- What is promised of the greedy rule: no release meets an unfinished instance, each instance is granted its steps within its bound, no
 -- step is granted twice, and nothing is granted that is not due. Assumes nothing.
-use Prim.Native.Nat.{ℕ, zero, suc, _+_, _-_, _*_, _≤_, _<_}
-use mathlib.Core.Path.{_≡_, refl, sym, _∙_}
-use mathlib.Core.Bool.{Bool, true, false, _&&_}
+use Prim.Native.Nat.{ℕ, zero, suc, _+_, _-_, _≤_, _<_}
+use mathlib.Core.Path.{_≡_, sym, _∙_}
+use mathlib.Core.Bool.{Bool, true, _&&_}
 use native.Mathlib.Omega.{arith}
 use native.Mathlib.Nat.{add-sub-of-le}
 use lib.Dec.{eqb}
 use borrow.Author.Tests.{eqb-true, eq-eqb}
 use Rattle.trade.specs.First.{first}
 use Rattle.trade.specs.Facts.{Facts}
-use Rattle.trade.specs.Interference.{matrix, interference, worst, one}
+use Rattle.trade.specs.Interference.{matrix, interference, worst}
 use Rattle.trade.specs.Bound.{demand}
 use Rattle.trade.specs.Slot.{released, instanceAt, doneNow, granted, among, runTo}
 use Rattle.trade.specs.Demands.{Admissible}
-use Rattle.response.specs.Course.{Course, often, after}
-use Rattle.response.specs.Window.{Potential}
-use Rattle.response.specs.Waiting.{Steady, Bounded, InTime, NeverMet}
+use Rattle.response.specs.Course.{often, after}
+use Rattle.response.specs.Waiting.{Bounded, InTime, NeverMet}
 use Rattle.response.specs.Promise.{courseOf, releaseAt, Granted, Kept, Due}
 use Rattle.response.proofs.Cases.{by-test, by-order, both-left, both-right}
 use Rattle.response.proofs.One.{one-holds}
@@ -24,7 +23,7 @@ use Rattle.response.proofs.Steady.{Quiet, Latest, Step, latest, done-co
 use Rattle.response.proofs.Worst.{worst-potential}
 use Rattle.response.proofs.Waiting.{bound-positive, period-positive, finished-in-time, never-met}
 use Rattle.response.proofs.Released.{released-late, release-comes, released-apart, instance-released, instance-latest, instance-within}
-use Rattle.response.proofs.Run.{run-slot, run-done, run-start, run-steady, run-running}
+use Rattle.response.proofs.Run.{run-done, run-start, run-steady, run-running}
 
 -- admissible figures within the periods are bounds, with the deadlines as carry-in
 pub admissible-bounded :
@@ -73,10 +72,11 @@ module _ (f : Facts) (firsts : ℕ → ℕ) (l : ℕ) (positive : 1 ≤ f .perio
       let v : ℕ = instanceAt f firsts t l in
       let low : releaseAt f firsts l v ≤ t = instance-released f firsts l positive t (granted-begun t mt) in
       let high : u < releaseAt f firsts l v + f .period l = rw instance (instance-latest f firsts l positive u) in
-      omega
-      (arith,
+      omega (
+        arith,
         one-holds mt,
-        after-grows (courseOf f firsts l) (run-steady f firsts l) t u t< (λ x x>. quiet-within v u high x (omega arith)))
+        after-grows (courseOf f firsts l) (run-steady f firsts l) t u t< (λ x x>. quiet-within v u high x (omega arith)),
+      )
 
   -- the steps that an instance has done in n slots were granted in slots of its own
   instance-steps :
@@ -89,12 +89,13 @@ module _ (f : Facts) (firsts : ℕ → ℕ) (l : ℕ) (positive : 1 ≤ f .perio
   instance-steps v n n≤ k k< =
       let r : ℕ = releaseAt f firsts l v in
       let s : Step (courseOf f firsts l) r n k
-          = find-step (courseOf f firsts l) (run-steady f firsts l) r (run-steady f firsts l .anew r (release-comes f firsts l v)) n
-            (λ u u> u<. quiet-within v u (omega arith) u u> (omega arith)) k k< in
-      (s .slot,
-      s .from,
-      s .before,
-      record { goes = s .goes; step = s .step; instance = instance-within f firsts l positive v (s .slot) (s .from) (omega arith) })
+      = find-step (courseOf f firsts l) (run-steady f firsts l) r (run-steady f firsts l .anew r (release-comes f firsts l v)) n
+      (λ u u> u<. quiet-within v u (omega arith) u u> (omega arith)) k k< in (
+        s .slot,
+        s .from,
+        s .before,
+        record { goes = s .goes; step = s .step; instance = instance-within f firsts l positive v (s .slot) (s .from) (omega arith) },
+      )
 
   -- each grant is due
   pub granted-due : (t : ℕ) → among (granted f firsts (runTo f firsts t)) l ≡ true → Due f firsts l t
@@ -107,7 +108,7 @@ module _ (f : Facts) (firsts : ℕ → ℕ) (l : ℕ) (positive : 1 ≤ f .perio
       let high : t < r + f .period l = instance-latest f firsts l positive t in
       let now : r + (t - r) ≡ t = add-sub-of-le low in
       let counts : doneNow f firsts (runTo f firsts t) l ≡ courseOf f firsts l .done r + often (courseOf f firsts l .goes) r (t - r)
-          = rw now at (done-counts (courseOf f firsts l) (run-steady f firsts l) r (t - r) (quiet-within v (r + (t - r)) (omega arith))) in
+      = rw now at (done-counts (courseOf f firsts l) (run-steady f firsts l) r (t - r) (quiet-within v (r + (t - r)) (omega arith))) in
       let anew : courseOf f firsts l .done r ≡ 0 = run-steady f firsts l .anew r (release-comes f firsts l v) in
       record {
         begun = begun;
@@ -139,18 +140,19 @@ module _ (f : Facts) (firsts : ℕ → ℕ) (l : ℕ) (positive : 1 ≤ f .perio
       let (u, from, before, g) = instance-steps v n n≤ k k< in
       let now : r + (u - r) ≡ u = add-sub-of-le from in
       let there : goes-with r k (u - r) ≡ true
-          = rw (now, g .goes, eq-eqb (doneNow f firsts (runTo f firsts u) l) k (g .step)) in
+      = rw (now, g .goes, eq-eqb (doneNow f firsts (runTo f firsts u) l) k (g .step)) in
       let d : ℕ = first (goes-with r k) n in
       let least : d ≤ u - r = first-least (goes-with r k) n (u - r) (omega arith) there in
       let here : goes-with r k d ≡ true = first-holds (goes-with r k) n (u - r) (omega arith) there in
       let goes : Bool = among (granted f firsts (runTo f firsts (r + d))) l in
-      let done : ℕ = doneNow f firsts (runTo f firsts (r + d)) l in
-      (omega arith,
-      record {
-        goes = both-left goes (eqb done k) here;
-        step = eqb-true done k (both-right goes (eqb done k) here);
-        instance = instance-within f firsts l positive v (r + d) (omega arith) (omega arith);
-      })
+      let done : ℕ = doneNow f firsts (runTo f firsts (r + d)) l in (
+        omega arith,
+        record {
+          goes = both-left goes (eqb done k) here;
+          step = eqb-true done k (both-right goes (eqb done k) here);
+          instance = instance-within f firsts l positive v (r + d) (omega arith) (omega arith);
+        },
+      )
 
   -- an instance that does all its steps in R slots, within its period, keeps to R
   pub steps-kept :
@@ -171,63 +173,64 @@ module _ (f : Facts) (firsts : ℕ → ℕ) (l : ℕ) (positive : 1 ≤ f .perio
             let (n-before, gn) = slot-granted v R R≤ n (omega arith) in
             by-order (slot-of v R n) (slot-of v R k)
             (λ back.
-              absurd
-              (omega
-              (arith,
-                gk .step,
-                gn .step,
-                done-grows (courseOf f firsts l) (run-steady f firsts l) (slot-of v R n) (slot-of v R k) back
-                (λ u u>. quiet-within v (slot-of v R k) (omega arith) u (omega arith)))))
+            absurd
+            (omega (
+              arith,
+              gk .step,
+              gn .step,
+              done-grows (courseOf f firsts l) (run-steady f firsts l) (slot-of v R n) (slot-of v R k) back
+                  (λ u u>. quiet-within v (slot-of v R k) (omega arith) u (omega arith)),
+            )))
             (λ on. on);
       }
 
 -- what bounds promise
 module _
-  (f : Facts)
-  (firsts carry R : ℕ → ℕ)
-  (bounds : Bounded (f .flows) (f .len) (f .period) carry (interference f) R)
+    (f : Facts)
+    (firsts carry R : ℕ → ℕ)
+    (bounds : Bounded (f .flows) (f .len) (f .period) carry (interference f) R)
   where
+    run-in-time : InTime (f .flows) (courseOf f firsts) R
+    unfolding courseOf interference
+    run-in-time =
+        finished-in-time (f .flows) (courseOf f firsts) (f .period) (matrix f) (run-running f firsts) carry (interference f) R bounds
+        (λ l h i j. worst (matrix f l h) (f .len l) i j (f .len h - j))
+        (λ l h l< h<. worst-potential (matrix f l h) (f .len l) (f .len h))
 
-  run-in-time : InTime (f .flows) (courseOf f firsts) R
-  unfolding courseOf interference
-  run-in-time =
-      finished-in-time (f .flows) (courseOf f firsts) (f .period) (matrix f) (run-running f firsts) carry (interference f) R bounds
-      (λ l h i j. worst (matrix f l h) (f .len l) i j (f .len h - j))
-      (λ l h l< h<. worst-potential (matrix f l h) (f .len l) (f .len h))
+    run-never-met : NeverMet (f .flows) (courseOf f firsts)
+    unfolding courseOf interference
+    run-never-met =
+        never-met (f .flows) (courseOf f firsts) (f .period) (matrix f) (run-running f firsts) carry (interference f) R bounds
+        (λ l h i j. worst (matrix f l h) (f .len l) i j (f .len h - j))
+        (λ l h l< h<. worst-potential (matrix f l h) (f .len l) (f .len h))
 
-  run-never-met : NeverMet (f .flows) (courseOf f firsts)
-  unfolding courseOf interference
-  run-never-met =
-      never-met (f .flows) (courseOf f firsts) (f .period) (matrix f) (run-running f firsts) carry (interference f) R bounds
-      (λ l h i j. worst (matrix f l h) (f .len l) i j (f .len h - j))
-      (λ l h l< h<. worst-potential (matrix f l h) (f .len l) (f .len h))
+    -- no release meets an unfinished instance
+    pub never-overrun : (t l : ℕ) → l < f .flows → released f firsts t l ≡ true → runTo f firsts t .done l ≡ f .len l
+    unfolding courseOf
+    never-overrun zero l l< e = run-start f firsts l
+    never-overrun (suc t) l l< e = run-done f firsts t l ∙ run-never-met l t l< e
 
-  -- no release meets an unfinished instance
-  pub never-overrun : (t l : ℕ) → l < f .flows → released f firsts t l ≡ true → runTo f firsts t .done l ≡ f .len l
-  unfolding courseOf
-  never-overrun zero l l< e = run-start f firsts l
-  never-overrun (suc t) l l< e = run-done f firsts t l ∙ run-never-met l t l< e
+    -- each instance is finished R slots after its release
+    pub finished : (l v : ℕ) → l < f .flows → runTo f firsts (releaseAt f firsts l v + R l) .done l ≡ f .len l
+    unfolding courseOf
+    finished l v l< =
+        let r : ℕ = releaseAt f firsts l v in
+        let e : suc (r + R l - 1) ≡ r + R l = omega (arith, bound-positive bounds l l<) in
+        rw (sym e) (run-done f firsts (r + R l - 1) l ∙ run-in-time l r l< (release-comes f firsts l v) (r + R l - 1) e)
 
-  -- each instance is finished R slots after its release
-  pub finished : (l v : ℕ) → l < f .flows → runTo f firsts (releaseAt f firsts l v + R l) .done l ≡ f .len l
-  unfolding courseOf
-  finished l v l< =
-      let r : ℕ = releaseAt f firsts l v in
-      let e : suc (r + R l - 1) ≡ r + R l = omega (arith, bound-positive bounds l l<) in
-      rw (sym e) (run-done f firsts (r + R l - 1) l ∙ run-in-time l r l< (release-comes f firsts l v) (r + R l - 1) e)
-
-  -- and each of its steps is granted within these slots
-  pub kept : (l v : ℕ) → l < f .flows → Kept f firsts l v (R l)
-  unfolding courseOf
-  kept l v l< =
-      let positive : 1 ≤ f .period l = period-positive bounds l l< in
-      let r : ℕ = releaseAt f firsts l v in
-      let last : suc (R l - 1) ≡ R l = omega (arith, bound-positive bounds l l<) in
-      let ends : R l ≤ f .period l = bounds .ends l l< in
-      let quiet : Quiet (courseOf f firsts l) r (r + (R l - 1)) = quiet-within f firsts l positive v (r + (R l - 1)) (omega arith) in
-      steps-kept f firsts l positive v (R l) ends
-      (omega
-      (arith,
-        run-steady f firsts l .anew r (release-comes f firsts l v),
-        run-in-time l r l< (release-comes f firsts l v) (r + (R l - 1)) (omega arith),
-        rw last at (after-counts (courseOf f firsts l) (run-steady f firsts l) r (R l - 1) quiet)))
+    -- and each of its steps is granted within these slots
+    pub kept : (l v : ℕ) → l < f .flows → Kept f firsts l v (R l)
+    unfolding courseOf
+    kept l v l< =
+        let positive : 1 ≤ f .period l = period-positive bounds l l< in
+        let r : ℕ = releaseAt f firsts l v in
+        let last : suc (R l - 1) ≡ R l = omega (arith, bound-positive bounds l l<) in
+        let ends : R l ≤ f .period l = bounds .ends l l< in
+        let quiet : Quiet (courseOf f firsts l) r (r + (R l - 1)) = quiet-within f firsts l positive v (r + (R l - 1)) (omega arith) in
+        steps-kept f firsts l positive v (R l) ends
+        (omega (
+          arith,
+          run-steady f firsts l .anew r (release-comes f firsts l v),
+          run-in-time l r l< (release-comes f firsts l v) (r + (R l - 1)) (omega arith),
+          rw last at (after-counts (courseOf f firsts l) (run-steady f firsts l) r (R l - 1) quiet),
+        ))

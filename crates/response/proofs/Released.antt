@@ -1,11 +1,11 @@
 -- Laws of `released` and `instanceAt`: instance v is released at the first release + v × P, and nowhere else. Assumes nothing.
-use Prim.Native.Nat.{ℕ, zero, suc, _+_, _-_, _*_, _/_, _%_, _≤_, _<_}
-use mathlib.Core.Path.{_≡_, refl, sym, _∙_}
-use mathlib.Core.Bool.{Bool, true, false, _&&_}
+use Prim.Native.Nat.{ℕ, _+_, _-_, _%_, _≤_, _<_}
+use mathlib.Core.Path.{_≡_}
+use mathlib.Core.Bool.{true}
 use native.Mathlib.Omega.{arith}
 use native.Mathlib.Nat.{div-add-mod', mod-lt, mul-mod-left, div-eq-of-lt-le, add-sub-cancel-left, suc-mul, lt-of-mul-lt-mul-right, mul-le-mul-right, add-mul, one-mul}
 use lib.Dec.{leb, eqb}
-use borrow.Author.Tests.{leb-true, eqb-true, le-leb, eq-eqb}
+use borrow.Author.Tests.{leb-true, eqb-true, le-leb}
 use Rattle.trade.specs.Facts.{Facts}
 use Rattle.trade.specs.Slot.{released, instanceAt}
 use Rattle.response.specs.Counting.{Apart}
@@ -22,11 +22,12 @@ module _ (f : Facts) (firsts : ℕ → ℕ) (l : ℕ) where
   pub released-slot : (t : ℕ) → released f firsts t l ≡ true → t ≡ releaseAt f firsts l (instanceAt f firsts t l)
   unfolding released instanceAt
   released-slot t e =
-      omega
-      (arith,
+      omega (
+        arith,
         released-late t e,
         div-add-mod' (t - firsts l) (f .period l),
-        eqb-true ((t - firsts l) % f .period l) 0 (both-right (leb (firsts l) t) (eqb ((t - firsts l) % f .period l) 0) e))
+        eqb-true ((t - firsts l) % f .period l) 0 (both-right (leb (firsts l) t) (eqb ((t - firsts l) % f .period l) 0) e),
+      )
 
   -- instance v is released
   pub release-comes : (v : ℕ) → released f firsts (releaseAt f firsts l v) l ≡ true

@@ -1,14 +1,13 @@
 -- The run of the greedy rule is a run in the sense of the theorem about waiting. Assumes nothing.
-use Prim.Native.Nat.{ℕ, zero, suc, _+_, _≤_, _<_}
+use Prim.Native.Nat.{ℕ, zero, suc, _≤_}
 use mathlib.Core.Path.{_≡_, refl, ap}
-use mathlib.Core.Bool.{Bool, true, false, cond}
+use mathlib.Core.Bool.{cond}
 use native.Mathlib.Omega.{arith}
 use native.Mathlib.Nat.{le-antisymm, le-of-eq}
 use Rattle.trade.specs.Facts.{Facts}
-use Rattle.trade.specs.Interference.{matrix, one}
-use Rattle.trade.specs.Slot.{State, atStart, released, doneNow, granted, among, nextState, runTo}
-use Rattle.response.specs.Course.{Course, after}
-use Rattle.response.specs.Window.{Blocks}
+use Rattle.trade.specs.Interference.{matrix}
+use Rattle.trade.specs.Slot.{atStart, released, doneNow, nextState, runTo}
+use Rattle.response.specs.Course.{after}
 use Rattle.response.specs.Waiting.{Steady, Running}
 use Rattle.response.specs.Promise.{courseOf}
 use Rattle.response.proofs.Steady.{Latest, latest, after-within, done-after}
@@ -75,7 +74,7 @@ module _ (f : Facts) (firsts : ℕ → ℕ) where
   run-idle (suc t) l t≤ =
       by-order (f .len l) (runTo f firsts (suc t) .done l) (le-antisymm (run-within (suc t) l))
       (λ left.
-        let steady : Steady (courseOf f firsts l) = run-steady l in
-        let q : Latest (courseOf f firsts l) t
-            = latest (courseOf f firsts l) steady t (omega (arith, run-done t l, done-after (courseOf f firsts l) steady t)) in
-        absurd (omega (arith, released-late f firsts l (q .slot) (q .at))))
+      let steady : Steady (courseOf f firsts l) = run-steady l in
+      let q : Latest (courseOf f firsts l) t
+      = latest (courseOf f firsts l) steady t (omega (arith, run-done t l, done-after (courseOf f firsts l) steady t)) in
+      absurd (omega (arith, released-late f firsts l (q .slot) (q .at))))

@@ -1,8 +1,8 @@
 -- Laws of a steady course: the steps done never pass the plan, and between releases they are counted by the slots in which the flow goes.
 -- Assumes nothing.
 use Prim.Native.Nat.{ℕ, zero, suc, _+_, _-_, _≤_, _<_}
-use mathlib.Core.Path.{_≡_, refl, sym, _∙_}
-use mathlib.Core.Bool.{Bool, true, false}
+use mathlib.Core.Path.{_≡_, sym}
+use mathlib.Core.Bool.{true, false}
 use native.Mathlib.Omega.{arith}
 use native.Mathlib.Nat.{add-zero, add-suc, add-sub-of-le}
 use Rattle.trade.specs.Interference.{one}
@@ -58,10 +58,11 @@ module _ (c : Course) (s : Steady c) where
   done-counts r zero quiet = rw (add-zero r, often-none) (omega arith)
   done-counts r (suc k) quiet =
       rw (add-suc r k, often-suc)
-      (omega
-      (arith,
+      (omega (
+        arith,
         s .steps (r + k) (quiet (suc (r + k)) (omega arith) (omega arith)),
-        done-counts r k (λ u r< u≤. quiet u r< (omega arith))))
+        done-counts r k (λ u r< u≤. quiet u r< (omega arith)),
+      ))
 
   pub after-counts : (r k : ℕ) → Quiet c r (r + k) → after c (r + k) ≡ c .done r + often (c .goes) r (suc k)
   unfolding after
@@ -92,13 +93,13 @@ module _ (c : Course) (s : Steady c) where
       by-test (c .released (suc t))
       (λ e. record { slot = suc t; at = e; past = omega arith; quiet = λ u u> u≤. absurd (omega arith) })
       (λ e.
-        let q : Latest c t = latest t (omega (arith, s .steps t e, done-after t)) in
-        record {
-          slot = q .slot;
-          at = q .at;
-          past = omega arith;
-          quiet = λ u u> u≤. by-order u t (q .quiet u u>) (λ t<. let is : u ≡ suc t = omega arith in rw is e);
-        })
+      let q : Latest c t = latest t (omega (arith, s .steps t e, done-after t)) in
+      record {
+        slot = q .slot;
+        at = q .at;
+        past = omega arith;
+        quiet = λ u u> u≤. by-order u t (q .quiet u u>) (λ t<. let is : u ≡ suc t = omega arith in rw is e);
+      })
 
   -- each step that is done went in a slot of its own
   pub find-step :
@@ -114,16 +115,16 @@ module _ (c : Course) (s : Steady c) where
       let more : often (c .goes) r (suc n) ≡ often (c .goes) r n + one (c .goes (r + n)) = often-suc (c .goes) r n in
       by-order (suc k) (often (c .goes) r n)
       (λ earlier.
-        let found : Step c r n k = find-step r anew n (λ u u> u<. quiet u u> (omega arith)) k earlier in
-        record { slot = found .slot; from = found .from; before = omega arith; goes = found .goes; step = found .step })
+      let found : Step c r n k = find-step r anew n (λ u u> u<. quiet u u> (omega arith)) k earlier in
+      record { slot = found .slot; from = found .from; before = omega arith; goes = found .goes; step = found .step })
       (λ last.
-        by-test (c .goes (r + n))
-        (λ e.
-          record {
-            slot = r + n;
-            from = omega arith;
-            before = omega arith;
-            goes = e;
-            step = omega (arith, one-holds e, done-counts r n (λ u u> u≤. quiet u u> (omega arith)));
-          })
-        (λ e. absurd (omega (arith, one-fails e))))
+      by-test (c .goes (r + n))
+      (λ e.
+      record {
+        slot = r + n;
+        from = omega arith;
+        before = omega arith;
+        goes = e;
+        step = omega (arith, one-holds e, done-counts r n (λ u u> u≤. quiet u u> (omega arith)));
+      })
+      (λ e. absurd (omega (arith, one-fails e))))

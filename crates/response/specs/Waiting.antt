@@ -3,10 +3,10 @@ use Prim.Native.Nat.{ℕ, suc, _+_, _*_, _≤_, _<_}
 use mathlib.Core.Path.{_≡_}
 use mathlib.Core.Bool.{true, false}
 use Rattle.trade.specs.First.{sumTo}
-use Rattle.trade.specs.Interference.{Matrix, one}
+use Rattle.trade.specs.Interference.{Matrix}
 use Rattle.trade.specs.Bound.{instances}
 use Rattle.response.specs.Course.{Course, after}
-use Rattle.response.specs.Window.{Potential, Blocks}
+use Rattle.response.specs.Window.{Blocks}
 use Rattle.response.specs.Counting.{Apart}
 
 -- the course of one flow: idle until its first release, set to 0 by a release, else one step on where it goes; it goes only where it is

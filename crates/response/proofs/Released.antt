@@ -45,12 +45,12 @@ module _ (f : Facts) (firsts : ℕ → ℕ) (l : ℕ) where
       let a< : a < b = lt-of-mul-lt-mul-right (f .period l) (omega arith) in
       omega (arith, suc-mul a (f .period l), mul-le-mul-right (f .period l) a<)
 
-  module _ (positive : 1 ≤ f .period l) where
-    -- the instance of a slot is the latest that is released
-    pub instance-released : (t : ℕ) → firsts l ≤ t → releaseAt f firsts l (instanceAt f firsts t l) ≤ t
-    unfolding instanceAt
-    instance-released t h = omega (arith, div-add-mod' (t - firsts l) (f .period l))
+  -- the instance of a slot is the latest that is released
+  pub instance-released : (t : ℕ) → firsts l ≤ t → releaseAt f firsts l (instanceAt f firsts t l) ≤ t
+  unfolding instanceAt
+  instance-released t h = omega (arith, div-add-mod' (t - firsts l) (f .period l))
 
+  module _ (positive : 1 ≤ f .period l) where
     pub instance-latest : (t : ℕ) → t < releaseAt f firsts l (instanceAt f firsts t l) + f .period l
     unfolding instanceAt
     instance-latest t = omega (arith, div-add-mod' (t - firsts l) (f .period l), mod-lt (t - firsts l) positive)

@@ -1,19 +1,19 @@
 -- The run of the greedy rule is a run in the sense of the theorem about waiting. Assumes nothing.
-use Prim.Native.Nat.{ℕ, zero, suc, _≤_}
+use Prim.Native.Nat.{ℕ, zero, suc, _+_, _≤_, _<_}
 use mathlib.Core.Path.{_≡_, refl, ap}
-use mathlib.Core.Bool.{cond}
+use mathlib.Core.Bool.{true, cond}
 use native.Mathlib.Omega.{arith}
 use native.Mathlib.Nat.{le-antisymm, le-of-eq}
 use Rattle.trade.specs.Facts.{Facts}
 use Rattle.trade.specs.Interference.{matrix}
-use Rattle.trade.specs.Slot.{atStart, released, doneNow, nextState, runTo}
+use Rattle.trade.specs.Slot.{granted, among, atStart, released, doneNow, nextState, runTo}
 use Rattle.response.specs.Course.{after}
 use Rattle.response.specs.Waiting.{Steady, Running}
-use Rattle.response.specs.Promise.{courseOf}
-use Rattle.response.proofs.Steady.{Latest, latest, after-within, done-after}
-use Rattle.response.proofs.Released.{released-late, released-apart}
+use Rattle.response.specs.Promise.{courseOf, releaseAt}
+use Rattle.response.proofs.Steady.{Quiet, Latest, latest, after-within, done-after}
+use Rattle.response.proofs.Released.{released-late, release-comes, released-apart}
 use Rattle.response.proofs.Granted.{granted-unfinished, waits-for}
-use Rattle.response.proofs.Cases.{by-order}
+use Rattle.response.proofs.Cases.{by-test, by-order}
 
 module _ (f : Facts) (firsts : ℕ → ℕ) where
   -- the run comes to slot t after t slots
@@ -78,3 +78,18 @@ module _ (f : Facts) (firsts : ℕ → ℕ) where
       let q : Latest (courseOf f firsts l) t
       = latest (courseOf f firsts l) steady t (omega (arith, run-done t l, done-after (courseOf f firsts l) steady t)) in
       absurd (omega (arith, released-late f firsts l (q .slot) (q .at))))
+
+  -- no other release within a period
+  pub run-quiet : (l v t : ℕ) → t < releaseAt f firsts l v + f .period l → Quiet (courseOf f firsts l) (releaseAt f firsts l v) t
+  unfolding courseOf
+  run-quiet l v t t< u u> u≤ =
+      by-test (released f firsts u l)
+      (λ e. absurd (omega (arith, released-apart f firsts l (releaseAt f firsts l v) u (release-comes f firsts l v) e u>)))
+      (λ e. e)
+
+  -- a granted flow has been released
+  pub granted-begun : (t l : ℕ) → among (granted f firsts (runTo f firsts t)) l ≡ true → firsts l ≤ t
+  unfolding courseOf
+  granted-begun t l m =
+      let q : Latest (courseOf f firsts l) t = latest (courseOf f firsts l) (run-steady l) t (run-steady l .within t m) in
+      omega (arith, released-late f firsts l (q .slot) (q .at))

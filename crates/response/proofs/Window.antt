@@ -71,9 +71,8 @@ module _
         by-test (charged marks l h t)
         (λ e.
         let b : Blocks marks l h t = charged-blocks marks l h t e in
-        let pay : one (marks (l .done t) (h .done t)) + F (l .done t) (suc (h .done t)) ≤ F (l .done t) (h .done t)
-        = p .pays (l .done t) (h .done t) i< (b .unfinished) in
-        rw (one-holds e, one-holds (b .goes), add-one) (omega (arith, rw (one-holds (b .marked)) at pay)))
+        rw (one-holds e, one-holds (b .goes), add-one)
+        (omega (arith, one-holds (b .marked), p .pays (l .done t) (h .done t) i< (b .unfinished))))
         (λ e. omega (arith, one-fails e, lower (l .done t) (h .done t) (after h t) i< (omega arith)))
 
     -- from one slot to the next, only a release of h raises the potential, and by no more than its top

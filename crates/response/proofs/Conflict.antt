@@ -52,7 +52,9 @@ module _ (disturbs : ℕ → ℕ → Bool) (next : ℕ → Transmission) (t : Tr
       conflicts-none is h (neither-right (conflict disturbs (next i) t) (conflictsWith disturbs (map next is) t) e) later)
 
   pub conflicts-some :
-      (is : List ℕ) → conflictsWith disturbs (map next is) t ≡ true → (h : ℕ) × (among is h ≡ true) × (conflict disturbs (next h) t ≡ true)
+      (is : List ℕ)
+      → conflictsWith disturbs (map next is) t ≡ true
+      → (h : ℕ) × (among is h ≡ true) × (conflict disturbs (next h) t ≡ true)
   unfolding conflictsWith among
   conflicts-some [] e = absurd (false≢true e)
   conflicts-some (i ∷ is) e =

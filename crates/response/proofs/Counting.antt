@@ -1,5 +1,5 @@
--- The counting lemma: how many instances of a flow act in a window, where its releases lie a period apart and the one carried in is not
--- too old. Assumes nothing.
+-- The counting lemma: how many instances of a flow act in a window, where its releases lie a period apart and the one carried in
+-- is not too old. Assumes nothing.
 use Prim.Native.Nat.{ℕ, zero, suc, _+_, _-_, _*_, _≤_, _<_}
 use mathlib.Core.Path.{_≡_}
 use mathlib.Core.Bool.{Bool, true}

@@ -10,7 +10,7 @@ use Rattle.response.specs.Course.{often, after}
 use Rattle.response.specs.Promise.{courseOf, releaseAt, Granted, Due}
 use Rattle.response.proofs.Cases.{by-order}
 use Rattle.response.proofs.One.{one-holds}
-use Rattle.response.proofs.Steady.{Step, done-counts, after-grows, find-step}
+use Rattle.response.proofs.Steady.{Quiet, Step, done-counts, after-grows, find-step}
 use Rattle.response.proofs.Released.{release-comes, instance-released, instance-latest, instance-within}
 use Rattle.response.proofs.Run.{run-quiet, granted-begun, run-steady}
 
@@ -66,8 +66,9 @@ module _ (f : Facts) (firsts : ℕ → ℕ) (l : ℕ) (positive : 1 ≤ f .perio
       let low : r ≤ t = instance-released f firsts l t begun in
       let high : t < r + f .period l = instance-latest f firsts l positive t in
       let now : r + (t - r) ≡ t = add-sub-of-le low in
+      let quiet : Quiet (courseOf f firsts l) r (r + (t - r)) = run-quiet f firsts l v (r + (t - r)) (omega arith) in
       let counts : doneNow f firsts (runTo f firsts t) l ≡ courseOf f firsts l .done r + often (courseOf f firsts l .goes) r (t - r)
-      = rw now at (done-counts (courseOf f firsts l) (run-steady f firsts l) r (t - r) (run-quiet f firsts l v (r + (t - r)) (omega arith))) in
+      = rw now at (done-counts (courseOf f firsts l) (run-steady f firsts l) r (t - r) quiet) in
       let anew : courseOf f firsts l .done r ≡ 0 = run-steady f firsts l .anew r (release-comes f firsts l v) in
       record {
         begun = begun;

@@ -1,5 +1,5 @@
--- Laws of `granted`, the flows that go by the greedy rule: they conflict with none of each other, and a flow left out conflicts with one
--- above it. Assumes nothing.
+-- Laws of `granted`, the flows that go by the greedy rule: they conflict with none of each other, and a flow left out conflicts
+-- with one above it. Assumes nothing.
 use Prim.Native.Nat.{ℕ, _<_}
 use mathlib.Core.Path.{_≡_, sym, _∙_}
 use mathlib.Core.Bool.{true, false}

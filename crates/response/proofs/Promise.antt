@@ -1,5 +1,5 @@
--- What bounds promise of the greedy rule: no release meets an unfinished instance, and each instance is granted its steps within its
--- bound. Assumes nothing.
+-- What bounds promise of the greedy rule: no release meets an unfinished instance, and each instance is granted its steps within
+-- its bound. Assumes nothing.
 use Prim.Native.Nat.{ℕ, zero, suc, _+_, _-_, _≤_, _<_}
 use mathlib.Core.Path.{_≡_, sym, _∙_}
 use mathlib.Core.Bool.{true}
@@ -40,6 +40,7 @@ module _
     (firsts carry R : ℕ → ℕ)
     (bounds : Bounded (f .flows) (f .len) (f .period) carry (interference f) R)
   where
+    -- the run meets the theorem about waiting, with the worst counts as potentials
     run-in-time : InTime (f .flows) (courseOf f firsts) R
     unfolding courseOf interference
     run-in-time =
@@ -48,11 +49,9 @@ module _
         (λ l h l< h<. worst-potential (matrix f l h) (f .len l) (f .len h))
 
     run-never-met : NeverMet (f .flows) (courseOf f firsts)
-    unfolding courseOf interference
+    unfolding courseOf
     run-never-met =
-        never-met (f .flows) (courseOf f firsts) (f .period) (matrix f) (run-running f firsts) carry (interference f) R bounds
-        (λ l h i j. worst (matrix f l h) (f .len l) i j (f .len h - j))
-        (λ l h l< h<. worst-potential (matrix f l h) (f .len l) (f .len h))
+        never-met (f .flows) (courseOf f firsts) (f .period) (matrix f) (run-running f firsts) carry (interference f) R bounds run-in-time
 
     -- no release meets an unfinished instance
     pub never-overrun : (t l : ℕ) → l < f .flows → released f firsts t l ≡ true → runTo f firsts t .done l ≡ f .len l

@@ -45,18 +45,20 @@ module _ (f : Facts) (firsts : ℕ → ℕ) (l : ℕ) where
       let a< : a < b = lt-of-mul-lt-mul-right (f .period l) (omega arith) in
       omega (arith, suc-mul a (f .period l), mul-le-mul-right (f .period l) a<)
 
-  -- the instance of a slot is the latest that is released
+  -- the instance of a slot is released
   pub instance-released : (t : ℕ) → firsts l ≤ t → releaseAt f firsts l (instanceAt f firsts t l) ≤ t
   unfolding instanceAt
   instance-released t h = omega (arith, div-add-mod' (t - firsts l) (f .period l))
 
   module _ (positive : 1 ≤ f .period l) where
+    -- and the next is still to come
     pub instance-latest : (t : ℕ) → t < releaseAt f firsts l (instanceAt f firsts t l) + f .period l
     unfolding instanceAt
     instance-latest t = omega (arith, div-add-mod' (t - firsts l) (f .period l), mod-lt (t - firsts l) positive)
 
     -- from one release until the next the instance is the same
-    pub instance-within : (v t : ℕ) → releaseAt f firsts l v ≤ t → t < releaseAt f firsts l v + f .period l → instanceAt f firsts t l ≡ v
+    pub instance-within :
+        (v t : ℕ) → releaseAt f firsts l v ≤ t → t < releaseAt f firsts l v + f .period l → instanceAt f firsts t l ≡ v
     unfolding instanceAt
     instance-within v t low high =
         div-eq-of-lt-le (f .period l) (omega arith) (rw (add-mul, one-mul) (omega arith))

@@ -1,5 +1,5 @@
--- Laws of a steady course: the steps done never pass the plan, and between releases they are counted by the slots in which the flow goes.
--- Assumes nothing.
+-- Laws of a steady course: the steps done never pass the plan, and between releases they are counted by the slots in which the
+-- flow goes. Assumes nothing.
 use Prim.Native.Nat.{ℕ, zero, suc, _+_, _-_, _≤_, _<_}
 use mathlib.Core.Path.{_≡_, sym}
 use mathlib.Core.Bool.{true, false}

@@ -1,4 +1,5 @@
--- The theorem about waiting: by induction on time, for all flows at once, each instance is finished within its bound. Assumes nothing.
+-- The theorem about waiting: by induction on time, for all flows at once, each instance is finished within its bound. Assumes
+-- nothing.
 use Prim.Native.Nat.{ℕ, zero, suc, _+_, _-_, _*_, _≤_, _<_}
 use mathlib.Core.Path.{_≡_, sym, subst}
 use mathlib.Core.Bool.{true}
@@ -48,7 +49,7 @@ module _
     (F : ℕ → ℕ → ℕ → ℕ → ℕ)
     (potential : (l h : ℕ) → l < m → h < l → Potential (marks l h) (flow l .len) (flow h .len) (top l h) (F l h))
   where
-    -- no release of a flow falls into the bound of another
+    -- the bound of an instance ends before the next release of its flow
     bound-quiet : (l r t : ℕ) → l < m → flow l .released r ≡ true → suc t ≡ r + R l → Quiet (flow l) r t
     bound-quiet l r t l< e t≡ u r< u≤ =
         by-test (flow l .released u) (λ e′. absurd (omega (arith, run .apart l l< r u e e′ r<, bounds .ends l l<))) (λ e′. e′)
@@ -86,11 +87,14 @@ module _
         quiet : Quiet (flow l) r T
         quiet = bound-quiet l r T l< e T≡
 
+        -- the flows above are all that keeps it waiting
         its-window : Window (flow l) l flow (marks l) r (R l)
         its-window =
             record {
               unfinished = unfinished;
-              onward = λ t r≤ t<. done-grows (flow l) (run .steady l l<) t (suc t) (omega arith) (λ u u> u≤. quiet u (omega arith) (omega arith));
+              onward =
+                  λ t r≤ t<.
+                  done-grows (flow l) (run .steady l l<) t (suc t) (omega arith) (λ u u> u≤. quiet u (omega arith) (omega arith));
               others-onward = λ h h< t r≤ t< e′. le-of-eq (sym (run .steady h (omega arith) .steps t e′));
               blocked = λ t r≤ t< waits. run .waits l t l< (unfinished t r≤ t<) waits;
             }
@@ -103,6 +107,7 @@ module _
                   done-grows (flow l) (run .steady l l<) t T (omega arith) (λ u u> u≤. quiet u (omega arith) u≤),
                 )
 
+        -- it waits no longer than they may act
         its-waiting : waiting (flow l) r (R l) ≤ sumTo (λ h. instances (R l) (carry h) (period h) * top l h) l
         its-waiting =
             le-trans
@@ -112,7 +117,7 @@ module _
             (counting-lemma (flow h) (period h) (carry h) r (R l) (period-positive bounds h (omega arith)) (bound-positive bounds l l<)
             (run .apart h (omega arith)) (carried-in T in-time h r (omega arith) (omega (arith, bound-positive bounds l l<))))))
 
-        -- the slots that are left to it hold its plan
+        -- so the slots that are left to it hold its plan
         never-late : ⊥
         never-late =
             let e₁ : r + (R l - 1) ≡ T = omega (arith, bound-positive bounds l l<) in
@@ -126,6 +131,7 @@ module _
               rw (e₁, e₂) at (after-counts (flow l) (run .steady l l<) r (R l - 1) (rw e₁ quiet)),
             )
 
+    -- the induction on time, for all flows at once
     in-time-to : (T : ℕ) → InTimeTo T
     unfolding InTimeTo
     in-time-to zero l r l< e t t≡ t< = absurd (omega arith)
@@ -141,7 +147,19 @@ module _
     unfolding InTimeTo
     finished-in-time l r l< e t t≡ = in-time-to (suc t) l r l< e t t≡ (omega arith)
 
-    -- so no release meets an unfinished instance
+-- where each instance is finished in time, no release meets an unfinished one
+module _
+    (m : ℕ)
+    (flow : ℕ → Course)
+    (period : ℕ → ℕ)
+    (marks : ℕ → ℕ → Matrix)
+    (run : Running m flow period marks)
+    (carry : ℕ → ℕ)
+    (top : ℕ → ℕ → ℕ)
+    (R : ℕ → ℕ)
+    (bounds : Bounded m (λ l. flow l .len) period carry top R)
+    (in-time : InTime m flow R)
+  where
     pub never-met : NeverMet m flow
     never-met l t l< e =
         by-order (flow l .len) (after (flow l) t) (le-antisymm (after-within (flow l) (run .steady l l<) t))
@@ -154,6 +172,6 @@ module _
         absurd
         (omega (
           arith,
-          finished-in-time l (q .slot) l< (q .at) end end≡,
+          in-time l (q .slot) l< (q .at) end end≡,
           after-stays (flow l) steady end t end≤ (λ u u>. q .quiet u (omega (arith, bound-positive bounds l l<))),
         )))

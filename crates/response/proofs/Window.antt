@@ -59,7 +59,9 @@ module _
     lower i j k i< j≤k = never-rises (F i) step j k j≤k
       where
         step : (n : ℕ) → F i (suc n) ≤ F i n
-        step n = by-order (h .len) n (λ over. omega (arith, p .ends i (suc n) (omega arith))) (λ n<. omega (arith, p .pays i n i< n<))
+        step n =
+            by-order (h .len) n (λ over. omega (arith, p .ends i (suc n) (omega arith)))
+            (λ n<. omega (arith, p .pays i n i< n<))
 
     -- what h does in a slot is paid for out of the potential
     paid :
@@ -142,8 +144,8 @@ module _ (l : Course) (count : ℕ) (others : ℕ → Course) (marks : ℕ → M
       rw (sum-add (λ h. often (charged (marks h) l (others h)) r n) (λ h. one (charged (marks h) l (others h) (r + n))) count)
       (omega (arith, waits-charged n (omega arith), wait-charged (r + n) (omega arith) (omega arith)))
 
-  -- THE WINDOW LEMMA: the slots of a window in which l does not go are at most the sum, over the others, of the instances that act in
-  -- the window, times the top of the potential
+  -- THE WINDOW LEMMA: the slots of a window in which l does not go are at most the sum, over the others, of the instances that act
+  -- in the window, times the top of the potential
   pub window-lemma :
       (top : ℕ → ℕ) (F : ℕ → ℕ → ℕ → ℕ)
       → ((h : ℕ) → h < count → Potential (marks h) (l .len) (others h .len) (top h) (F h))

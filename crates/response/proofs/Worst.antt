@@ -1,5 +1,5 @@
--- Laws of `worst`, the largest count of conflicts that any choice reaches, and that it is a potential: the one of the greedy rule. Assumes
--- nothing.
+-- Laws of `worst`, the largest count of conflicts that any choice reaches, and that it is a potential: the one of the greedy rule.
+-- Assumes nothing.
 use Prim.Native.Nat.{ℕ, zero, suc, _+_, _-_, _≤_, _<_, max}
 use mathlib.Core.Path.{_≡_, refl}
 use native.Mathlib.Omega.{arith}
@@ -48,6 +48,8 @@ module _ (marks : Matrix) (rows : ℕ) where
             let e : columns - j ≡ suc (columns - suc j) = omega arith in
             rw e (omega (arith, worst-suc i j (columns - suc j) i<));
         starts =
-            λ i. let e : columns - 0 ≡ columns = omega arith in rw e (never-rises (λ n. worst marks rows n 0 columns) (λ n. worst-falls n 0 columns) 0 i (omega arith));
+            λ i.
+            let e : columns - 0 ≡ columns = omega arith in
+            rw e (never-rises (λ n. worst marks rows n 0 columns) (λ n. worst-falls n 0 columns) 0 i (omega arith));
         ends = λ i j over. let e : columns - j ≡ 0 = omega arith in rw e (worst-none i j);
       }

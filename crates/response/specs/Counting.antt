@@ -1,4 +1,5 @@
--- What the counting lemma assumes: releases at least a period apart, and an instance carried in that is not too old. Leans on Course.
+-- What the counting lemma assumes: releases at least a period apart, and an instance carried in that is not too old. Leans on
+-- Course.
 use Prim.Native.Nat.{ℕ, _+_, _≤_, _<_}
 use mathlib.Core.Path.{_≡_}
 use mathlib.Core.Bool.{Bool, true}

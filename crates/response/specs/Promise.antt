@@ -35,7 +35,8 @@ pub record Kept (f : Facts) (firsts : ℕ → ℕ) (l v R : ℕ) : Type 0 where
   pub within : (k : ℕ) → k < f .len l → slot k < releaseAt f firsts l v + R
   pub ordered : (k n : ℕ) → k < n → n < f .len l → slot k < slot n
 
--- a grant of flow l in slot t is due: its instance is released, and the earlier steps of that instance were granted since its release
+-- a grant of flow l in slot t is due: its instance is released, and the earlier steps of that instance were granted since its
+-- release
 pub record Due (f : Facts) (firsts : ℕ → ℕ) (l t : ℕ) : Type 0 where
   pub begun : firsts l ≤ t
   pub released : releaseAt f firsts l (instanceAt f firsts t l) ≤ t

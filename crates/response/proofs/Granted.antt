@@ -10,20 +10,20 @@ use Rattle.trade.specs.Facts.{Facts}
 use Rattle.trade.specs.Conflict.{conflict}
 use Rattle.trade.specs.Interference.{matrix}
 use Rattle.trade.specs.Slot.{State, doneNow, unfinished, nextStep, greedy, granted, going, among}
-use Rattle.response.proofs.Conflict.{conflict-mutual, conflicts-none, conflicts-some}
-use Rattle.response.proofs.Among.{among-at}
-use Rattle.response.proofs.Going.{going-below, going-works, going-free, left-out, going-above, going-rising, going-once}
+use Rattle.trade.proofs.Conflict.{conflict-symmetric}
+use Rattle.trade.proofs.Slot.{going-below, going-stands, Blocked, left-out-blocked}
+use Rattle.trade.proofs.Order.{among-at, conflicts-none, going-held, going-rising, going-once}
 
 module _ (f : Facts) (firsts : ℕ → ℕ) (s : State) where
   -- a granted flow is one of the book's, and is unfinished
   pub granted-below : (i : ℕ) → among (granted f firsts s) i ≡ true → i < f .flows
   unfolding granted
-  granted-below i m = going-below (greedy f firsts s) (unfinished f firsts s) (f .flows) i m
+  granted-below i m = going-below (greedy f firsts s) (unfinished f firsts s) (f .flows) i m .0
 
   pub granted-unfinished : (i : ℕ) → among (granted f firsts s) i ≡ true → doneNow f firsts s i < f .len i
   unfolding granted unfinished
   granted-unfinished i m =
-      ltb-true (doneNow f firsts s i) (f .len i) (going-works (greedy f firsts s) (unfinished f firsts s) (f .flows) i m)
+      ltb-true (doneNow f firsts s i) (f .len i) (going-below (greedy f firsts s) (unfinished f firsts s) (f .flows) i m .1)
 
   -- they stand in record order, none twice
   pub granted-rising :
@@ -51,9 +51,10 @@ module _ (f : Facts) (firsts : ℕ → ℕ) (s : State) where
   granted-free i j i< mi mj =
       conflicts-none (f .disturbs) (nextStep f firsts s) (nextStep f firsts s j)
       (going (greedy f firsts s) (unfinished f firsts s) j) i
-      (going-free (greedy f firsts s) (unfinished f firsts s) (f .flows) j mj)
-      (going-above (greedy f firsts s) (unfinished f firsts s) j (f .flows) i i<
-      (omega (arith, going-below (greedy f firsts s) (unfinished f firsts s) (f .flows) j mj))
+      (going-held (greedy f firsts s) (unfinished f firsts s) (f .flows) j mj)
+      (sym
+      (going-stands (greedy f firsts s) (unfinished f firsts s) j (f .flows) i i<
+      (omega (arith, going-below (greedy f firsts s) (unfinished f firsts s) (f .flows) j mj .0)))
       ∙ mi)
 
   pub granted-apart :
@@ -76,15 +77,11 @@ module _ (f : Facts) (firsts : ℕ → ℕ) (s : State) where
       × (h < l)
       × (among (granted f firsts s) h ≡ true)
       × (matrix f l h (doneNow f firsts s l) (doneNow f firsts s h) ≡ true)
-  unfolding granted greedy unfinished nextStep matrix
+  unfolding unfinished nextStep matrix
   waits-for l l< left m =
-      let held : greedy f firsts s (going (greedy f firsts s) (unfinished f firsts s) l) l ≡ true
-      = left-out (greedy f firsts s) (unfinished f firsts s) (f .flows) l l< (lt-ltb (doneNow f firsts s l) (f .len l) left) m in
-      let (h, mh, c) = conflicts-some (f .disturbs) (nextStep f firsts s) (nextStep f firsts s l)
-      (going (greedy f firsts s) (unfinished f firsts s) l) held in
-      let h< : h < l = going-below (greedy f firsts s) (unfinished f firsts s) l h mh in (
-        h,
-        h<,
-        sym (going-above (greedy f firsts s) (unfinished f firsts s) l (f .flows) h h< (omega arith)) ∙ mh,
-        conflict-mutual (f .disturbs) (nextStep f firsts s l) (nextStep f firsts s h) ∙ c,
+      let b : Blocked f firsts s l = left-out-blocked f firsts s l l< (lt-ltb (doneNow f firsts s l) (f .len l) left) m in (
+        b .by,
+        b .above,
+        b .goes,
+        conflict-symmetric (f .disturbs) (nextStep f firsts s l) (nextStep f firsts s (b .by)) ∙ b .conflicts,
       )

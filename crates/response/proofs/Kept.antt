@@ -9,10 +9,10 @@ use borrow.Author.Tests.{eqb-true, eq-eqb}
 use Rattle.trade.specs.First.{first}
 use Rattle.trade.specs.Facts.{Facts}
 use Rattle.trade.specs.Slot.{released, doneNow, granted, among, runTo}
+use Rattle.trade.proofs.First.{and-true, some-intro, some-true}
 use Rattle.response.specs.Course.{often}
 use Rattle.response.specs.Promise.{courseOf, releaseAt, Granted, Kept}
-use Rattle.response.proofs.Cases.{by-order, both-left, both-right}
-use Rattle.response.proofs.First.{first-holds, first-least}
+use Rattle.response.proofs.Cases.{by-order}
 use Rattle.response.proofs.Steady.{done-grows}
 use Rattle.response.proofs.Released.{instance-within}
 use Rattle.response.proofs.Due.{instance-steps}
@@ -42,14 +42,13 @@ module _ (f : Facts) (firsts : ℕ → ℕ) (l : ℕ) (positive : 1 ≤ f .perio
       let there : goes-with f firsts l r k (u - r) ≡ true
       = rw (now, g .goes, eq-eqb (doneNow f firsts (runTo f firsts u) l) k (g .step)) in
       let d : ℕ = first (goes-with f firsts l r k) n in
-      let least : d ≤ u - r = first-least (goes-with f firsts l r k) n (u - r) (omega arith) there in
-      let here : goes-with f firsts l r k d ≡ true = first-holds (goes-with f firsts l r k) n (u - r) (omega arith) there in
+      let (soon, here) = some-true (goes-with f firsts l r k) n (some-intro (goes-with f firsts l r k) n (u - r) (omega arith) there) in
       let goes : Bool = among (granted f firsts (runTo f firsts (r + d))) l in
       let done : ℕ = doneNow f firsts (runTo f firsts (r + d)) l in (
         omega arith,
         record {
-          goes = both-left goes (eqb done k) here;
-          step = eqb-true done k (both-right goes (eqb done k) here);
+          goes = and-true goes (eqb done k) here .0;
+          step = eqb-true done k (and-true goes (eqb done k) here .1);
           instance = instance-within f firsts l positive v (r + d) (omega arith) (omega arith);
         },
       )

@@ -1,14 +1,10 @@
 -- Laws about the definitions of specs/, and the theorem about waiting.
--- Case splits, and laws of the trade's definitions
+-- Case splits, and further laws of the trade's definitions
 pub mod Cases
 pub mod One
-pub mod First
 pub mod SumTo
 pub mod Ceil
 pub mod Worst
-pub mod Conflict
-pub mod Among
-pub mod Going
 pub mod Granted
 pub mod Released
 -- The theorem about waiting: the window lemma, the counting lemma, the induction on time

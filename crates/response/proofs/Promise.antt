@@ -6,9 +6,8 @@ use mathlib.Core.Bool.{true}
 use native.Mathlib.Omega.{arith}
 use Rattle.trade.specs.Facts.{Facts}
 use Rattle.trade.specs.Interference.{matrix, interference, worst}
-use Rattle.trade.specs.Bound.{demand}
+use Rattle.trade.specs.Bound.{Admissible, slotsNeeded}
 use Rattle.trade.specs.Slot.{released, runTo}
-use Rattle.trade.specs.Demands.{Admissible}
 use Rattle.response.specs.Waiting.{Bounded, InTime, NeverMet}
 use Rattle.response.specs.Promise.{courseOf, releaseAt, Kept}
 use Rattle.response.proofs.Steady.{Quiet, after-counts}
@@ -23,9 +22,9 @@ pub admissible-bounded :
     (f : Facts) (R : ℕ → ℕ)
     → ((l : ℕ) → l < f .flows → 1 ≤ f .len l)
     → ((l : ℕ) → l < f .flows → f .deadline l ≤ f .period l)
-    → ((l : ℕ) → l < f .flows → Admissible f l (R l))
+    → ((l : ℕ) → l < f .flows → Admissible f (f .deadline) l (R l))
     → Bounded (f .flows) (f .len) (f .period) (f .deadline) (interference f) R
-unfolding demand
+unfolding slotsNeeded
 admissible-bounded f R plan period admissible =
     record {
       plan = plan;

@@ -8,15 +8,15 @@ use lib.Dec.{leb, eqb}
 use borrow.Author.Tests.{leb-true, eqb-true, le-leb}
 use Rattle.trade.specs.Facts.{Facts}
 use Rattle.trade.specs.Slot.{released, instanceAt}
+use Rattle.trade.proofs.First.{and-true}
 use Rattle.response.specs.Counting.{Apart}
 use Rattle.response.specs.Promise.{releaseAt}
-use Rattle.response.proofs.Cases.{both-left, both-right}
 
 module _ (f : Facts) (firsts : ℕ → ℕ) (l : ℕ) where
   -- no release before the first
   pub released-late : (t : ℕ) → released f firsts t l ≡ true → firsts l ≤ t
   unfolding released
-  released-late t e = leb-true (firsts l) t (both-left (leb (firsts l) t) (eqb ((t - firsts l) % f .period l) 0) e)
+  released-late t e = leb-true (firsts l) t (and-true (leb (firsts l) t) (eqb ((t - firsts l) % f .period l) 0) e .0)
 
   -- a slot with a release is that of its instance
   pub released-slot : (t : ℕ) → released f firsts t l ≡ true → t ≡ releaseAt f firsts l (instanceAt f firsts t l)
@@ -26,7 +26,7 @@ module _ (f : Facts) (firsts : ℕ → ℕ) (l : ℕ) where
         arith,
         released-late t e,
         div-add-mod' (t - firsts l) (f .period l),
-        eqb-true ((t - firsts l) % f .period l) 0 (both-right (leb (firsts l) t) (eqb ((t - firsts l) % f .period l) 0) e),
+        eqb-true ((t - firsts l) % f .period l) 0 (and-true (leb (firsts l) t) (eqb ((t - firsts l) % f .period l) 0) e .1),
       )
 
   -- instance v is released

@@ -11,12 +11,6 @@ unfolding sumTo
 sum-add f g zero = refl
 sum-add f g (suc n) = omega (arith, sum-add f g n)
 
--- a figure that is nowhere larger has no larger sum
-pub sum-mono : (f g : ℕ → ℕ) (n : ℕ) → ((i : ℕ) → i < n → f i ≤ g i) → sumTo f n ≤ sumTo g n
-unfolding sumTo
-sum-mono f g zero h = omega arith
-sum-mono f g (suc n) h = omega (arith, sum-mono f g n (λ i p. h i (omega arith)), h n (omega arith))
-
 -- the sum is at least each of its parts
 pub sum-member : (f : ℕ → ℕ) (n i : ℕ) → i < n → f i ≤ sumTo f n
 unfolding sumTo

@@ -13,7 +13,7 @@ use Rattle.response.specs.Window.{Potential, Window}
 use Rattle.response.specs.Counting.{Carried}
 use Rattle.response.specs.Waiting.{Steady, Running, Bounded, InTime, NeverMet}
 use Rattle.response.proofs.Cases.{by-test, by-order}
-use Rattle.response.proofs.SumTo.{sum-mono}
+use Rattle.trade.proofs.Sums.{sum-mono}
 use Rattle.response.proofs.Often.{goes-or-waits}
 use Rattle.response.proofs.Window.{window-lemma}
 use Rattle.response.proofs.Counting.{counting-lemma}

@@ -12,9 +12,11 @@ use Rattle.trade.specs.First.{sumTo}
 use Rattle.trade.specs.Interference.{Matrix, one}
 use Rattle.response.specs.Course.{Course, often, waiting, acting, after}
 use Rattle.response.specs.Window.{Potential, Blocks, Window}
-use Rattle.response.proofs.Cases.{by-test, by-order, both-left, both-right, never-rises}
+use Rattle.trade.proofs.First.{and-true}
+use Rattle.trade.proofs.Sums.{sum-mono}
+use Rattle.response.proofs.Cases.{by-test, by-order, never-rises}
 use Rattle.response.proofs.One.{one-holds, one-fails}
-use Rattle.response.proofs.SumTo.{sum-add, sum-mono, sum-member}
+use Rattle.response.proofs.SumTo.{sum-add, sum-member}
 use Rattle.response.proofs.Often.{often-none, often-suc}
 use Rattle.response.proofs.Acting.{acting-one, acting-suc}
 
@@ -35,11 +37,12 @@ charged-blocks marks l h t e =
     let goes : Bool = h .goes t in
     let left : Bool = ltb (h .done t) (h .len) in
     let marked : Bool = marks (l .done t) (h .done t) in
-    let e₁ : (waits && goes && left) ≡ true = both-left (waits && goes && left) marked e in
+    let (e₁, is-marked) = and-true (waits && goes && left) marked e in
+    let (e₂, is-left) = and-true (waits && goes) left e₁ in
     record {
-      goes = both-right waits goes (both-left (waits && goes) left e₁);
-      unfinished = ltb-true (h .done t) (h .len) (both-right (waits && goes) left e₁);
-      marked = both-right (waits && goes && left) marked e;
+      goes = and-true waits goes e₂ .1;
+      unfinished = ltb-true (h .done t) (h .len) is-left;
+      marked = is-marked;
     }
 
 -- one other flow h, its potential, and the window

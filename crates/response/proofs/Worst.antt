@@ -1,10 +1,10 @@
 -- Laws of `worst`, the largest count of conflicts that any choice reaches, and that it is a potential: the one of the greedy rule.
 -- Assumes nothing.
-use Prim.Native.Nat.{ℕ, zero, suc, _+_, _-_, _≤_, _<_, max}
+use Prim.Native.Nat.{ℕ, zero, suc, _-_, _≤_}
 use mathlib.Core.Path.{_≡_, refl}
 use native.Mathlib.Omega.{arith}
-use Rattle.trade.specs.First.{largestFrom}
-use Rattle.trade.specs.Interference.{Matrix, one, worst, worstPath}
+use Rattle.trade.specs.Interference.{Matrix, worst, worstPath}
+use Rattle.trade.proofs.Interference.{worst-past, worst-row}
 use Rattle.response.specs.Window.{Potential}
 use Rattle.response.proofs.Cases.{by-order, never-rises}
 
@@ -15,26 +15,11 @@ module _ (marks : Matrix) (rows : ℕ) where
   unfolding worst
   worst-none i j = refl
 
-  -- no row is left
-  pub worst-over : (i j k : ℕ) → rows ≤ i → worst marks rows i j k ≡ 0
-  unfolding worst largestFrom
-  worst-over i j zero h = refl
-  worst-over i j (suc k) h = let e : rows - i ≡ 0 = omega arith in rw e
-
-  -- step j of h is paired with row i, or with a later one
-  pub worst-suc :
-      (i j k : ℕ)
-      → i < rows
-      → worst marks rows i j (suc k)
-      ≡ max (one (marks i j) + worst marks rows i (suc j) k) (worst marks rows (suc i) j (suc k))
-  unfolding worst largestFrom
-  worst-suc i j k h = let e : rows - i ≡ suc (rows - suc i) = omega arith in rw e
-
   -- fewer rows are no worse
   pub worst-falls : (i j k : ℕ) → worst marks rows (suc i) j k ≤ worst marks rows i j k
   worst-falls i j zero = omega (arith, worst-none (suc i) j)
   worst-falls i j (suc k) =
-      by-order rows i (λ over. omega (arith, worst-over (suc i) j (suc k) (omega arith))) (λ i<. omega (arith, worst-suc i j k i<))
+      by-order rows i (λ over. omega (arith, worst-past marks rows (suc i) j (suc k) (omega arith))) (λ i<. omega (arith, worst-row marks rows i j k i<))
 
   -- the worst count from row i and column j on is a potential, and its top is the worst path
   pub worst-potential :
@@ -46,7 +31,7 @@ module _ (marks : Matrix) (rows : ℕ) where
         pays =
             λ i j i< j<.
             let e : columns - j ≡ suc (columns - suc j) = omega arith in
-            rw e (omega (arith, worst-suc i j (columns - suc j) i<));
+            rw e (omega (arith, worst-row marks rows i j (columns - suc j) i<));
         starts =
             λ i.
             let e : columns - 0 ≡ columns = omega arith in

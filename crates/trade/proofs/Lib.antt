@@ -5,6 +5,7 @@ pub mod Conflict
 pub mod Interference
 pub mod Bound
 pub mod Slot
+pub mod Order
 pub mod Answers
 pub mod Calls
 pub mod Front

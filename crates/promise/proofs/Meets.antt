@@ -1,7 +1,7 @@
 -- A program that meets its contracts is the program that the definitions describe. Assumes nothing.
 use mathlib.Core.Path.{_≡_, refl, sym, subst}
 use Rattle.trade.specs.Demands.{Program, planner}
-use Rattle.promise.specs.Meets.{Meets}
+use Rattle.promise.specs.Promise.{Meets}
 
 pub planner-meets : Meets planner
 unfolding planner

@@ -1,2 +1,2 @@
 -- What a reader must believe of the promise: when a program meets its contracts.
-pub mod Meets
+pub mod Promise

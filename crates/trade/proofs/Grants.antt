@@ -62,17 +62,23 @@ module _ (f : Facts) (firsts : ℕ → ℕ) (s : State) (i : ℕ) where
 
   -- a grant says which step of which instance of which flow it is
   pub grant-says :
-      f .id i < 2 ^ 16
-      → instanceAt f firsts (s .slot) i < 2 ^ 32
-      → grantAt (grantOf f firsts s i) 0 ≡ stepGrant f i (instanceAt f firsts (s .slot) i) (doneNow f firsts s i)
+      (v : ℕ)
+      → f .id i < 2 ^ 16
+      → v < 2 ^ 32
+      → instanceAt f firsts (s .slot) i ≡ v
+      → grantAt (grantOf f firsts s i) 0 ≡ stepGrant f i v (doneNow f firsts s i)
   unfolding grantAt grantOf stepGrant nextStep twoBytes fourBytes
-  grant-says id< v< =
-      let v : ℕ = instanceAt f firsts (s .slot) i in
+  grant-says v id< v< e =
       let last : List ℕ = doneNow f firsts s i ∷ nextStep f firsts s i .sender .0 ∷ nextStep f firsts s i .receiver .0 ∷ [] in
+      let inst : List ℕ = fourBytes (instanceAt f firsts (s .slot) i) in
       λ k.
       record {
-        id = word-twoBytes (f .id i) (fourBytes v ++ last) id< k;
-        instance = (long-behind (twoBytes (f .id i)) (fourBytes v ++ last) 2 0 refl ∙ long-fourBytes v last v<) k;
+        id = word-twoBytes (f .id i) (inst ++ last) id< k;
+        instance =
+            (long-behind (twoBytes (f .id i)) (inst ++ last) 2 0 refl
+            ∙ long-fourBytes (instanceAt f firsts (s .slot) i) last (omega arith)
+            ∙ e)
+            k;
         step = doneNow f firsts s i;
         sender = nextStep f firsts s i .sender .0;
         receiver = nextStep f firsts s i .receiver .0;

@@ -6,3 +6,5 @@ pub mod Refusals
 pub mod Accepted
 pub mod Slots
 pub mod Promise
+-- The empty programs
+pub mod Empty

@@ -9,7 +9,7 @@ use lib.Dec.{eqb, leb, ltb}
 use lib.ListN.{length}
 use borrow.Author.Tests.{eq-eqb, ne-eqb, lt-ltb, le-ltb, leb-true}
 use Rattle.trade.specs.Limits.{mostFlows, endOfClock, areaBytes, grantBytes}
-use Rattle.trade.specs.Bytes.{over}
+use Rattle.trade.specs.Bytes.{long, over}
 use Rattle.trade.specs.Facts.{Facts, said}
 use Rattle.trade.specs.Answers.{done, refused, isDone, firstOf, noNumber, on}
 use Rattle.trade.specs.Bound.{bound}
@@ -223,6 +223,11 @@ module _ (r : Lent) (ready : Ready planner r) where
   area-before (suc t) clock =
       ap (λ (area : List ℕ). advanceOf (record { book = r .book; area = area; grants = r .grants t }) .area) (area-before t (omega arith))
       ∙ ap (λ (a : Advanced). a .area) (slot-leaves t clock)
+
+  -- its first four bytes say so
+  pub slot-before : (t : ℕ) → t ≤ endOfClock → long (areaBefore planner r t) 0 ≡ t
+  unfolding stateIn
+  slot-before t clock = rw (area-before t clock) (slot-read t clock)
 
   -- start is done
   pub starts : Done (planner .start (record { book = r .book; area = r .area }) .answer)

@@ -23,7 +23,7 @@ use Rattle.trade.proofs.Calls.{advance-done}
 use Rattle.trade.proofs.Cases.{cases-hold}
 use Rattle.trade.proofs.Valid.{check-bounds}
 use Rattle.trade.proofs.Answers.{passed-done}
-use Rattle.promise.specs.Empty.{withCheck, withAdvance, refusesAll, sameBounds, sameGrants, clockMoved, grantsNothing, onlySlotZero, inventsCount}
+use Rattle.promise.specs.Empty.{withCheck, withAdvance, refusesAll, sameBounds, sameGrants, clockMoved, grantsNothing, onlySlotZero, inventsCount, TurnedAway}
 use Rattle.promise.proofs.Slots.{slot-before}
 use Rattle.promise.proofs.Accepted.{check-passed, book-passed, reported-bound}
 
@@ -87,18 +87,18 @@ unfolding slot-A slotOf advanceOf
 done-3 = ap (λ (a : Advanced). a .answer .code) (cases-hold .case5-slot3)
 
 -- REFUSING ALL TABLES: the flows of book A have response bounds
-pub refusing-all-turned-away : (code number : ℕ) → Demand2 (refusesAll code number) → ⊥
+refusing-all : (code number : ℕ) → Demand2 (refusesAll code number) → ⊥
 unfolding refusesAll withCheck readAnswer
-refusing-all-turned-away code number d =
+refusing-all code number d =
     let reads : Done (readAnswer bookA) = ap (λ (a : Answer). a .code) (passed-done noNumber (book-passed bookA accepts-A)) in
     let accepts : suc code ≡ 0
     = d .accepts bookA reads .1 (λ l h. (bound (said bookA) l, check-bounds bookA (check-passed bookA accepts-A) l h)) in
     omega arith
 
 -- ONE CONSTANT BOUND LIST: the smallest bounds of books A and B differ
-pub same-bounds-turned-away : (bounds : List ℕ) → Demand2 (sameBounds bounds) → ⊥
+same-bounds : (bounds : List ℕ) → Demand2 (sameBounds bounds) → ⊥
 unfolding sameBounds withCheck planner checkOf
-same-bounds-turned-away bounds d =
+same-bounds bounds d =
     let a : getD bounds 0 0 ≡ bound (said bookA) 0
     = reports-bound (sameBounds bounds) d bookA accepts-A accepts-A 0 (omega (arith, flows-A)) in
     let b : getD bounds 0 0 ≡ bound (said bookB) 0
@@ -106,9 +106,9 @@ same-bounds-turned-away bounds d =
     omega (arith, bound-A, bound-B)
 
 -- ONE CONSTANT GRANT LIST: slot 2 of book A grants flow 7, and slot 3 flow 9
-pub same-grants-turned-away : (grants : List ℕ) → Demand2 (sameGrants grants) → ⊥
+same-grants : (grants : List ℕ) → Demand2 (sameGrants grants) → ⊥
 unfolding sameGrants withAdvance slot-A slotOf
-same-grants-turned-away grants d =
+same-grants grants d =
     let seven : getD grants 1 0 ≡ 7
     = ap (λ (a : Advanced). getD (a .grants) 1 0) (advances-alike (sameGrants grants) d (slot-A 2) done-2 ∙ cases-hold .case5-slot2) in
     let nine : getD grants 1 0 ≡ 9
@@ -116,27 +116,23 @@ same-grants-turned-away grants d =
     omega arith
 
 -- GRANTING NOTHING: slot 2 of book A has one grant
-pub granting-nothing-turned-away : Demand2 grantsNothing → ⊥
+granting-nothing : Demand2 grantsNothing → ⊥
 unfolding grantsNothing withAdvance clockMoved slot-A slotOf
-granting-nothing-turned-away d =
+granting-nothing d =
     let one : _≡_ {A = ℕ} 0 1
     = ap (λ (a : Advanced). a .answer .number) (advances-alike grantsNothing d (slot-A 2) done-2 ∙ cases-hold .case5-slot2) in
     omega arith
 
--- AN INVENTED COUNT, wherever it is not that of the flows granted; such as one more
-pub invented-count-turned-away :
+-- AN INVENTED COUNT, wherever it is not that of the flows granted
+inventing-counts :
     (count : Advancing → ℕ) (a : Advancing)
     → Done (advanceAnswer a)
     → (count a ≡ length (flowsGranted a) → ⊥)
     → Demand2 (inventsCount count)
     → ⊥
 unfolding inventsCount withAdvance isDone
-invented-count-turned-away count a e wrong d =
+inventing-counts count a e wrong d =
     wrong (rw (eq-eqb (advanceAnswer a .code) 0 e) at (ap (λ (r : Advanced). r .answer .number) (d .grants a e)))
-
-pub one-more-turned-away : Demand2 (inventsCount (λ a. suc (length (flowsGranted a)))) → ⊥
-one-more-turned-away =
-    invented-count-turned-away (λ a. suc (length (flowsGranted a))) (slot-A 2) done-2 (λ e. omega arith)
 
 -- book A and the memory lent for its run
 run-A : Lent
@@ -175,9 +171,9 @@ module _ (advance : Advancing → Advanced) where
       (d .kept run-A ready-A 0 0 (omega (arith, flows-A)) (omega (arith, release-A)))
 
 -- GRANTING NOTHING keeps no instance
-pub granting-nothing-breaks-demand-3 : Demand3 grantsNothing → ⊥
+granting-nothing-over-time : Demand3 grantsNothing → ⊥
 unfolding grantsNothing withAdvance clockMoved inSlot run-A
-granting-nothing-breaks-demand-3 d =
+granting-nothing-over-time d =
     let (j, counted, is) = kept-A clockMoved d .granted 0 (omega (arith, len-A)) in
     omega (arith, counted)
 
@@ -211,9 +207,9 @@ slot-2-idle =
     ap (λ (a : Advanced). a .answer .number) (moves-later (handed 2) 1 at-2)
 
 -- WORKING IN SLOT 0 ALONE: the third step of that instance is due in slot 2
-pub only-slot-zero-breaks-demand-3 : Demand3 onlySlotZero → ⊥
+only-slot-zero : Demand3 onlySlotZero → ⊥
 unfolding onlySlotZero withAdvance run-A
-only-slot-zero-breaks-demand-3 d =
+only-slot-zero d =
     let k : Kept onlySlotZero run-A 0 0 3 = kept-A (onlySlotZero .advance) d in
     let last : k .slot 2 ≡ 2
     = omega (
@@ -225,3 +221,17 @@ only-slot-zero-breaks-demand-3 d =
     ) in
     let (j, counted, is) = k .granted 2 (omega (arith, len-A)) in
     omega (arith, slot-2-idle, rw last at counted)
+
+-- THE EMPTY PROGRAMS are turned away
+pub empty-programs-turned-away : TurnedAway
+empty-programs-turned-away =
+    record {
+      refusing-all = refusing-all;
+      same-bounds = same-bounds;
+      same-grants = same-grants;
+      granting-nothing = granting-nothing;
+      granting-nothing-over-time = granting-nothing-over-time;
+      only-slot-zero = only-slot-zero;
+      inventing-counts = inventing-counts;
+      one-more = inventing-counts _ (slot-A 2) done-2 (λ e. omega arith);
+    }

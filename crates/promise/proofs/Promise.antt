@@ -21,7 +21,7 @@ use Rattle.response.proofs.Granted.{granted-below, granted-unfinished, granted-
 use Rattle.response.proofs.Run.{run-slot}
 use Rattle.response.proofs.Due.{granted-in-one-slot, granted-due}
 use Rattle.response.proofs.Promise.{kept}
-use Rattle.promise.specs.Promise.{Meets}
+use Rattle.promise.specs.Promise.{Meets, Keeps}
 use Rattle.promise.proofs.Meets.{by-meeting}
 use Rattle.promise.proofs.Accepted.{accepted-valid, accepted-bounded, reported-bound}
 use Rattle.promise.proofs.Slots.{facts, run, goes, starts, in-slot, in-last-slot}
@@ -200,3 +200,44 @@ planner-keeps-demand-3 =
 -- and so by every program that meets its contracts
 pub keeps-demand-3 : (p : Program) → Meets p → Demand3 p
 keeps-demand-3 = by-meeting Demand3 planner-keeps-demand-3
+
+-- an instance is kept within any number of slots that is at least the reported bound and ends within the clock
+kept-within :
+    (r : Lent)
+    → Ready planner r
+    → (l v D : ℕ)
+    → l < facts r .flows
+    → reported planner (r .book) l ≤ D
+    → releaseOf (facts r) l v + D ≤ endOfClock
+    → Kept planner r l v D
+kept-within r ready l v D l< R≤ ends =
+    let k : Kept planner r l v (reported planner (r .book) l) = planner-keeps-demand-3 .kept r ready l v l< (omega arith) in
+    record {
+      slot = k .slot;
+      granted = k .granted;
+      released = k .released;
+      within = λ s s<. omega (arith, k .within s s<);
+      ordered = k .ordered;
+    }
+
+-- THE PROMISE, which demand 3 makes
+planner-keeps : (r : Lent) → Ready planner r → Keeps planner r
+planner-keeps r ready =
+    record {
+      runs = λ t clock. planner-keeps-demand-3 .runs r ready t (omega arith);
+      in-bound = λ l v l< ends. kept-within r ready l v _ l< (omega arith) (omega arith);
+      in-time =
+          λ l v l< ends.
+          kept-within r ready l v _ l<
+          (omega (arith, reported-bound (r .book) (ready .accepted) l l<, accepted-bounded (r .book) (ready .accepted) .carried l l<))
+          (omega arith);
+      once =
+          λ l v s t u t< u< (i, ci, gi) (j, cj, gj).
+          let same : grant planner r t i ≡ grant planner r u j = gi ∙ sym gj in
+          planner-keeps-demand-3 .once r ready t u i j t< u< ci cj (ap (λ (g : ReadGrant). g .id) same)
+          (ap (λ (g : ReadGrant). g .instance) same) (ap (λ (g : ReadGrant). g .step) same)
+          .0;
+    }
+
+pub keeps : (p : Program) → Meets p → (r : Lent) → Ready p r → Keeps p r
+keeps = by-meeting (λ p. (r : Lent) → Ready p r → Keeps p r) planner-keeps

@@ -1,15 +1,16 @@
 -- The empty programs of document 01, which the demands turn away: each is the planner with one call replaced. Leans on the trade's
 -- Demands.
 use Prim.Native.Nat.{ℕ, suc}
+use mathlib.Core.Path.{_≡_}
 use mathlib.Core.Bool.{cond}
 use mathlib.Core.List.{List}
 use lib.Dec.{eqb}
-use lib.ListN.{replicate}
+use lib.ListN.{length, replicate}
 use Rattle.trade.specs.Limits.{mostFlows}
 use Rattle.trade.specs.Bytes.{long, fourBytes, over}
 use Rattle.trade.specs.Answers.{done, refused, isDone}
-use Rattle.trade.specs.Calls.{Checked, Advancing, Advanced, checkAnswer, advanceAnswer, advanceOf}
-use Rattle.trade.specs.Demands.{Program, planner}
+use Rattle.trade.specs.Calls.{Checked, Advancing, Advanced, checkAnswer, flowsGranted, advanceAnswer, advanceOf}
+use Rattle.trade.specs.Demands.{Program, planner, Done, Demand2, Demand3}
 
 -- the planner with another check, and with another advance
 unfoldable pub withCheck : (List ℕ → Checked) → Program
@@ -68,3 +69,24 @@ inventsCount count =
       area = advanceOf a .area;
       grants = advanceOf a .grants;
     })
+
+-- each breaks the demand that document 01 names for it
+pub record TurnedAway : Type 0 where
+  -- demand 2: acceptance happens when bounds exist
+  pub refusing-all : (code number : ℕ) → Demand2 (refusesAll code number) → ⊥
+  -- demand 2: smallest bound, and greedy choice
+  pub same-bounds : (bounds : List ℕ) → Demand2 (sameBounds bounds) → ⊥
+  pub same-grants : (grants : List ℕ) → Demand2 (sameGrants grants) → ⊥
+  -- demands 2 and 3
+  pub granting-nothing : Demand2 grantsNothing → ⊥
+  pub granting-nothing-over-time : Demand3 grantsNothing → ⊥
+  -- demand 3, over any number of slots
+  pub only-slot-zero : Demand3 onlySlotZero → ⊥
+  -- demand 2: the count is that of the greedy set, so one that is wrong in a slot that is done is turned away; such as one more
+  pub inventing-counts :
+      (count : Advancing → ℕ) (a : Advancing)
+      → Done (advanceAnswer a)
+      → (count a ≡ length (flowsGranted a) → ⊥)
+      → Demand2 (inventsCount count)
+      → ⊥
+  pub one-more : Demand2 (inventsCount (λ a. suc (length (flowsGranted a)))) → ⊥

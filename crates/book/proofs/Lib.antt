@@ -4,4 +4,5 @@ pub mod BadRow
 pub mod BadRecord
 pub mod BadStep
 pub mod Frames
+pub mod Opening
 pub mod Pasting

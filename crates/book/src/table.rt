@@ -8,7 +8,6 @@ ghost use Rattle.trade.specs.Answers.{firstOf, noNumber};
 ghost use Rattle.trade.specs.Table.{emptyTable, InMemory, rowsRoom, recordsRoom, stepsRoom};
 ghost use Rattle.trade.specs.Calls.{tableRules};
 ghost use Rattle.book.specs.Table.{sectionsIn, Reads};
-
 use crate::parts::is_miscounted;
 use crate::parts::open_book;
 use crate::parts::records_of;
@@ -52,12 +51,16 @@ impl Table {
 }
 
 // The table of these sections, zeros behind each.
-pub fn table_of<'a>(nodes: u8, flows: u8, rows: &'a [u8], records: &'a [u8], steps: &'a [u8]) -> Table
+pub fn table_of<'a>(
+    nodes: u8,
+    flows: u8,
+    rows: &'a [u8],
+    records: &'a [u8],
+    steps: &'a [u8],
+) -> Table
     requires { ⌜ (length (now rows) ≤ rowsRoom) × (length (now records) ≤ recordsRoom) × (length (now steps) ≤ stepsRoom) ⌝ }
-    ensures {
-        λ r. ⌜ sectionsIn r
-        ≡ sections nodes flows (padded rowsRoom (now (rows .entry))) (padded recordsRoom (now (records .entry))) (padded stepsRoom (now (steps .entry))) ⌝
-    }
+    ensures { λ r. ⌜ sectionsIn r
+        ≡ sections nodes flows (padded rowsRoom (now (rows .entry))) (padded recordsRoom (now (records .entry))) (padded stepsRoom (now (steps .entry))) ⌝ }
 {
     let mut r = [0u8; Node::MOST * Node::ROW_BYTES];
     let mut c = [0u8; Flow::MOST * Flow::RECORD_BYTES];
@@ -75,11 +78,15 @@ pub fn table_of<'a>(nodes: u8, flows: u8, rows: &'a [u8], records: &'a [u8], ste
 }
 
 // Codes 3, 5, 6 and 8 on a table's sections.
-pub fn table_answer<'a>(nodes: usize, flows: usize, rows: &'a [u8], records: &'a [u8], steps: &'a [u8]) -> Answer
+pub fn table_answer<'a>(
+    nodes: usize,
+    flows: usize,
+    rows: &'a [u8],
+    records: &'a [u8],
+    steps: &'a [u8],
+) -> Answer
     requires { ⌜ InMemory (sections nodes flows (now rows) (now records) (now steps)) ⌝ }
-    ensures {
-        λ r. ⌜ r ≡ firstOf tableRules noNumber (sections nodes flows (now (rows .entry)) (now (records .entry)) (now (steps .entry))) ⌝
-    }
+    ensures { λ r. ⌜ r ≡ firstOf tableRules noNumber (sections nodes flows (now (rows .entry)) (now (records .entry)) (now (steps .entry))) ⌝ }
 {
     if is_miscounted(nodes, flows) {
         return Answer::refused(3, 0);

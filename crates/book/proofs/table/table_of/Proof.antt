@@ -1,3 +1,9 @@
+-- `book::table::table_of` meets its contract: each section is copied over zeros. Assumes nothing.
+use mathlib.Core.Path.{_∙_}
+use denote.Ref.{now}
+use Rattle.trade.specs.Layout.{sections}
+use Rattle.trade.specs.Table.{rowsRoom, recordsRoom, stepsRoom}
+use Rattle.book.proofs.Pasting.{copied-over-zeros}
 use borrow.Author.Needs.{needs}
 use Rattle.book.proofs.table.table_of.Statement.{statement}
 use Rattle.book.proofs.table.table_of.Tie as tie
@@ -31,7 +37,13 @@ copy-requires-3 c κs = search needs
 
 -- src/table.rt:55:1
 returns : tie.Need-returns
-returns c = ?
+returns c =
+    let a = c .before .before .before .before .before .before .before .before .before .before .before .before .args in
+    λ i.
+    sections (a .nodes) (a .flows)
+    ((c .before .before .before .before .before .before .before .copy .ensures .1 ∙ copied-over-zeros rowsRoom (now (a .rows))) i)
+    ((c .before .before .before .before .copy2 .ensures .1 ∙ copied-over-zeros recordsRoom (now (a .records))) i)
+    ((c .before .copy3 .ensures .1 ∙ copied-over-zeros stepsRoom (now (a .steps))) i)
 
 pub table-of-spec : {M : Type 1} → statement M
 table-of-spec =

@@ -23,7 +23,8 @@ const ANY_PERIOD: usize = MAX_PERIOD as usize;
 
 pub const SMALL: Shape = Shape { nodes: (1, 8), flows: (0, 5), steps: (1, 5), phase: 12, period: 60, slack: 3 };
 pub const MIDDLE: Shape = Shape { nodes: (4, 24), flows: (1, 12), steps: (1, 10), phase: 90, period: 900, slack: 6 };
-pub const CROWDED: Shape = Shape { nodes: (40, 64), flows: (20, 32), steps: (1, 6), phase: 200, period: 2_000, slack: 9 };
+pub const CROWDED: Shape =
+    Shape { nodes: (40, 64), flows: (20, 32), steps: (1, 6), phase: 200, period: 2_000, slack: 9 };
 pub const WIDE: Shape = Shape {
     nodes: (2, MAX_NODES),
     flows: (0, MAX_FLOWS),
@@ -150,7 +151,8 @@ pub fn regular(seed: u64, nodes: usize, flows: usize, len: usize) -> Draft {
     let dice = &mut Dice::new(seed);
     let period = len + 2 * len * flows;
     let rows = (0..nodes).map(|x| neighbours(nodes)[x] | (dice.roll() & dice.roll() & dice.roll() & !(1 << x)));
-    let mut draft = Draft { rows: rows.map(|row| row & (u64::MAX >> (MAX_NODES - nodes))).collect(), flows: Vec::new() };
+    let mut draft =
+        Draft { rows: rows.map(|row| row & (u64::MAX >> (MAX_NODES - nodes))).collect(), flows: Vec::new() };
     for place in 0..flows {
         let period = (period + place) as u16;
         let plan = plan(dice, nodes, len);

@@ -28,7 +28,8 @@ pub const PLAIN_CASES: &[PlainCase] = &[
 
 fn interference_of_a() -> Result<(), String> {
     let facts = book_a().facts();
-    let pairs: Vec<_> = facts.flows[1].plan.iter().flat_map(|&l| facts.flows[0].plan.iter().map(move |&h| (l, h))).collect();
+    let pairs: Vec<_> =
+        facts.flows[1].plan.iter().flat_map(|&l| facts.flows[0].plan.iter().map(move |&h| (l, h))).collect();
     let conflicting: Vec<_> = pairs.into_iter().filter(|&(l, h)| facts.conflict(l, h)).collect();
     same("conflicts", conflicting, vec![((4, 3), (2, 3)), ((3, 2), (1, 2)), ((3, 2), (2, 3))])?;
     same("I(9,7)", facts.interference(1, 0), 2)

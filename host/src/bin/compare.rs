@@ -10,8 +10,8 @@ use slot_host::call::{from_hex, Call, Kind, Outcome};
 use slot_host::damage;
 use slot_host::dice::Dice;
 use slot_host::draft::Draft;
-use slot_host::generate::{accepted, any, Shape, CROWDED, FULL, MIDDLE, SMALL, WIDE};
-use slot_host::limits::GRANT_BYTES;
+use slot_host::generate::{accepted, any, regular, Shape, CROWDED, FULL, MIDDLE, SMALL, WIDE};
+use slot_host::limits::*;
 use slot_host::options::Options;
 use slot_host::planner::{self, Planner};
 use std::process::ExitCode;
@@ -79,16 +79,21 @@ fn compare(desk: &mut Desk, calls: u64, seed: u64) -> Result<(), String> {
     let dice = &mut Dice::new(seed);
     let mut round = 0;
     while desk.calls() < calls {
+        // Small books come first, so that a difference shows on a small one if it can.
         let shape = match round % 64 {
-            0 => &FULL,
-            16 | 48 => &WIDE,
-            32 => &CROWDED,
-            r if r % 4 == 1 => &MIDDLE,
+            63 => &FULL,
+            15 | 47 => &WIDE,
+            31 => &CROWDED,
+            r if r % 4 == 3 => &MIDDLE,
             _ => &SMALL,
         };
-        let draft = if dice.once_in(3) { any(dice, shape) } else { accepted(dice, shape) };
+        let draft = match dice.below(6) {
+            0 | 1 => any(dice, shape),
+            2 if round % 64 == 63 => regular(dice.roll(), MAX_NODES, MAX_FLOWS, MAX_LEN),
+            _ => accepted(dice, shape),
+        };
         one_book(desk, dice, &draft).map_err(|what| format!("round {round}: {what}"))?;
-        if round % 8 == 1 {
+        if round % 8 == 3 {
             aimed_books(desk, dice, shape).map_err(|what| format!("round {round}, aimed: {what}"))?;
         }
         round += 1;
@@ -154,7 +159,12 @@ fn summary(desk: &Desk, rounds: u64) -> Result<(), String> {
     for kind in Kind::ALL {
         let counts = &desk.counts[kind as usize];
         let met = kind.codes().iter().map(|&code| format!("{code}: {}", counts[code as usize]));
-        println!("  {:7} {} calls; by code {}", kind.name(), counts.iter().sum::<u64>(), met.collect::<Vec<_>>().join(", "));
+        println!(
+            "  {:7} {} calls; by code {}",
+            kind.name(),
+            counts.iter().sum::<u64>(),
+            met.collect::<Vec<_>>().join(", ")
+        );
         let unmet = kind.codes().iter().filter(|&&code| counts[code as usize] == 0);
         missing.extend(unmet.map(|code| format!("{} {code}", kind.name())));
     }

@@ -101,7 +101,8 @@ fn compare(desk: &mut Desk, calls: u64, seed: u64) -> Result<(), String> {
     summary(desk, round)
 }
 
-/// A valid book: the three calls, many slots out of any area, a run from start, and damaged copies.
+/// A valid book: the three calls, many slots out of any area, a run from start and one from anywhere, and damaged
+/// copies.
 fn one_book(desk: &mut Desk, dice: &mut Dice, draft: &Draft) -> Result<(), String> {
     let book = draft.bytes();
     desk.ask_all(dice, &book, draft)?;
@@ -109,8 +110,12 @@ fn one_book(desk: &mut Desk, dice: &mut Dice, draft: &Draft) -> Result<(), Strin
         let (area, grants) = (areas::area(dice, draft), areas::grants(dice, draft.flows.len()));
         desk.ask(Call::advance(&book, &area, &grants))?;
     }
-    let slots = dice.pick(&[20, 60, 60, 300]);
-    run(desk, dice, draft, &book, slots)?;
+    let started = desk.ask(Call::start(&book, &areas::memory(dice)))?;
+    if started.answer == packed(DONE, 0) {
+        run(desk, dice, draft, &book, started.area)?;
+    }
+    let anywhere = areas::area(dice, draft);
+    run(desk, dice, draft, &book, anywhere)?;
     for _ in 0..4 {
         let damaged = damage::at_random(dice, &book);
         desk.ask_all(dice, &damaged, draft)?;
@@ -120,10 +125,9 @@ fn one_book(desk: &mut Desk, dice: &mut Dice, draft: &Draft) -> Result<(), Strin
     Ok(())
 }
 
-/// Slots in a row: from start if the book is accepted, else from any area, as long as no slot is refused.
-fn run(desk: &mut Desk, dice: &mut Dice, draft: &Draft, book: &[u8], slots: u64) -> Result<(), String> {
-    let started = desk.ask(Call::start(book, &areas::memory(dice)))?;
-    let mut area = if started.answer == packed(DONE, 0) { started.area } else { areas::area(dice, draft) };
+/// Slots in a row, as long as none is refused.
+fn run(desk: &mut Desk, dice: &mut Dice, draft: &Draft, book: &[u8], mut area: Vec<u8>) -> Result<(), String> {
+    let slots = dice.pick(&[20, 60, 60, 300]);
     let mut grants = dice.bytes(GRANT_BYTES * draft.flows.len() + 3);
     for _ in 0..slots {
         let advanced = desk.ask(Call::advance(book, &area, &grants))?;

@@ -88,7 +88,8 @@ pub fn by_choices(matrix: &Matrix) -> u64 {
     }
 }
 
-/// The same figure, by recursion over (row i, column j): what the columns from j on can add with rows from i on.
+/// The same figure, by recursion over (row i, column j): what the columns from j on can add with rows from i on,
+/// nothing once either is used up.
 pub fn by_recursion(matrix: &Matrix) -> u64 {
     let mut known = vec![vec![None; matrix[0].len()]; matrix.len()];
     worst(matrix, &mut known, 0, 0)

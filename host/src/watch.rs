@@ -14,7 +14,7 @@ pub struct Tally {
     pub grants: u64,
     /// Instances whose whole window lay within the run.
     pub instances: u64,
-    /// Those of them that were done in the very last slot of their bound.
+    /// Those of them that had flows above to wait for, and were done in the very last slot of their bound.
     pub at_bound: u64,
 }
 
@@ -125,8 +125,8 @@ impl Log {
         Ok(())
     }
 
-    /// Every instance whose window is over has gone, each step once. How many there are, and how many of them were
-    /// done in the last slot of their window.
+    /// Every instance whose window is over has gone, each step once. How many there are, and how many of them used
+    /// a window longer than their plan up to its last slot.
     fn windows(&self, slots: u64) -> Result<(u64, u64), String> {
         let (mut instances, mut at_bound) = (0, 0);
         for flow in 0..self.facts.flows.len() {
@@ -137,7 +137,8 @@ impl Log {
                     format!("flow {flow} instance {instance} went {} of its {len} steps", went.len())
                 })?;
                 instances += 1;
-                at_bound += u64::from(went.last() == Some(&(self.window_end(flow, instance) - 1)));
+                let used_up = went.last() == Some(&(self.window_end(flow, instance) - 1));
+                at_bound += u64::from(used_up && usize::from(self.bounds[flow]) > len);
             }
         }
         Ok((instances, at_bound))

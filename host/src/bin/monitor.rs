@@ -54,7 +54,7 @@ fn watch_all(planner: &dyn Planner, drafts: &[Draft], slots: u64) -> Result<(), 
         tally.add(&seen);
     }
     println!(
-        "{}: {} slots, {} grants, {} whole instances, each in its bound, {} of them in its last slot",
+        "{}: {} slots, {} grants, {} whole instances, each within its bound, {} of them after waiting to its last slot",
         planner.name(),
         tally.slots,
         tally.grants,

@@ -7,3 +7,4 @@ pub mod OwnSections
 pub mod Frames
 pub mod Opening
 pub mod Pasting
+pub mod Writing

@@ -15,4 +15,5 @@ pub mod Valid
 pub mod Calls
 pub mod Front
 pub mod Unique
+pub mod Numbers
 pub mod Cases

@@ -56,14 +56,17 @@ sound f i e =
 
 -- facts that pass codes 3 and 6
 pub record Valid (f : Facts) : Type 0 where
+  pub nodes : Within 1 mostNodes (f .nodes)
   pub flows : f .flows ≤ mostFlows
   pub records : (i : ℕ) → i < f .flows → Sound f i
 
 pub valid : (f : Facts) → code3 f .code ≡ 0 → code6 f .code ≡ 0 → Valid f
 unfolding code3 code6
 valid f e3 e6 =
+    let (n, m) = or-false (outside 1 mostNodes (f .nodes)) (outside 0 mostFlows (f .flows)) (given-passed 2 _ 0 e3) in
     record {
-      flows = outside-false 0 mostFlows (f .flows) (or-false (outside 1 mostNodes (f .nodes)) (outside 0 mostFlows (f .flows)) (given-passed 2 _ 0 e3) .1) .most;
+      nodes = outside-false 1 mostNodes (f .nodes) n;
+      flows = outside-false 0 mostFlows (f .flows) m .most;
       records = λ i h. sound f i (givenFirst-passed 5 (badRecord f) (f .flows) e6 i h);
     }
 

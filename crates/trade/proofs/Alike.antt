@@ -1,6 +1,6 @@
--- Facts that agree on their used places: the rules and the bounds read nothing else. Leans on Sums and Answers. Assumes nothing.
+-- Facts that agree on their used places: the rules and the bounds read nothing else. Leans on Sums and Valid. Assumes nothing.
 use Prim.Native.Nat.{ℕ, zero, suc, _+_, _-_, _*_, _≤_, _<_}
-use mathlib.Core.Path.{_≡_, refl, _∙_, ap, ap₂}
+use mathlib.Core.Path.{_≡_, refl, sym, _∙_, ap, ap₂}
 use mathlib.Core.Bool.{Bool, false, _&&_, _||_}
 use native.Mathlib.Omega.{arith}
 use lib.Dec.{eqb, leb}
@@ -8,16 +8,19 @@ use borrow.Author.Tests.{leb-false}
 use Rattle.trade.specs.Limits.{mostNodes, rowBytes, mostFlows}
 use Rattle.trade.specs.First.{first, some, listTo}
 use Rattle.trade.specs.Bytes.{padded}
-use Rattle.trade.specs.Facts.{Facts, firstStep, allSteps, stepOf}
+use Rattle.trade.specs.Layout.{Sections}
+use Rattle.trade.specs.Facts.{Facts, factsOf, firstStep, allSteps, stepOf}
 use Rattle.trade.specs.Conflict.{meet, conflict}
 use Rattle.trade.specs.Interference.{Matrix, one, worst, worstPath, matrix, interference}
 use Rattle.trade.specs.Bound.{slotsNeeded, admissible, boundBy, bound, boundless}
 use Rattle.trade.specs.Codes.{badRow, badRecord, firstOfPlan, badStep, code3, code5, code6, code8, code9}
-use Rattle.trade.specs.Calls.{boundsOf}
+use Rattle.trade.specs.Calls.{tableRules, boundsOf}
+use Rattle.trade.specs.declared.answer.Answer.{Answer}
 use Rattle.trade.specs.declared.node.Transmission.{Transmission}
 use Rattle.trade.proofs.First.{or-false, first-cong, some-cong}
 use Rattle.trade.proofs.Sums.{sum-cong, sum-next, sum-le, largest-cong, listTo-same}
-use Rattle.trade.proofs.Answers.{givenFirst-same, givenFirst-passed}
+use Rattle.trade.proofs.Answers.{Passed, passed-none, passed-more, passed-head, passed-tail, givenFirst-same, givenFirst-passed}
+use Rattle.trade.proofs.Valid.{table-valid}
 
 -- the same counts; and alike in the rows of the n nodes, the records of the m flows and the steps of their plans
 pub record Alike (f g : Facts) : Type 0 where
@@ -52,6 +55,10 @@ placed f n e =
         let (below, apart) = or-false _ _ placed in
         let (sender, receiver) = or-false _ _ below in
         (leb-false _ _ sender, leb-false _ _ receiver)
+
+pub table-placed : (t : Sections) → Passed t tableRules → Placed (factsOf t)
+unfolding tableRules
+table-placed t p = placed (factsOf t) (table-valid t p .nodes .most) (passed-head (passed-tail (passed-tail (passed-tail p))))
 
 -- step i of plan l is one of all steps
 pub step-listed : (f : Facts) (l i : ℕ) → l < f .flows → i < f .len l → firstStep f l + i < allSteps f
@@ -176,3 +183,17 @@ module _ (f g : Facts) (a : Alike f g) where
     unfolding boundsOf
     alike-bounds =
         ap (padded mostFlows) (listTo-same (bound f) (bound g) (f .flows) alike-bound ∙ ap (listTo (bound g)) (a .flows))
+
+-- so a table passes what a table alike passes
+pub alike-passed : (s t : Sections) → Alike (factsOf s) (factsOf t) → Passed s tableRules → Passed t tableRules
+unfolding tableRules
+alike-passed s t a p =
+    let p5 = passed-tail p in
+    let p6 = passed-tail p5 in
+    passed-more (passes (alike-code3 (factsOf s) (factsOf t) a) (passed-head p))
+    (passed-more (passes (alike-code5 (factsOf s) (factsOf t) a) (passed-head p5))
+    (passed-more (passes (alike-code6 (factsOf s) (factsOf t) a) (passed-head p6))
+    (passed-more (passes (alike-code8 (factsOf s) (factsOf t) a) (passed-head (passed-tail p6))) passed-none)))
+  where
+    passes : {c d : Answer} → c ≡ d → c .code ≡ 0 → d .code ≡ 0
+    passes e z = sym (ap (λ (answer : Answer). answer .code) e) ∙ z

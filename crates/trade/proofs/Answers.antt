@@ -72,6 +72,11 @@ unfolding on
 passed-on look passed-none = passed-none
 passed-on look (passed-more e p) = passed-more e (passed-on look p)
 
+pub passed-look : {A B : Type 0} (look : B → A) {x : B} (rules : List (A → Answer)) → Passed x (on look rules) → Passed (look x) rules
+unfolding on
+passed-look look [] p = passed-none
+passed-look look (rule ∷ rules) p = passed-more (passed-head p) (passed-look look rules (passed-tail p))
+
 -- a call that is done passed every rule, and one that passed every rule is done
 pub firstOf-passed : {A : Type 0} (rules : List (A → Answer)) (number : A → ℕ) (x : A) → firstOf rules number x .code ≡ 0 → Passed x rules
 unfolding isDone

@@ -6,8 +6,8 @@ use mathlib.Core.Logic.{⊎-elim}
 use mathlib.Core.List.{List, _++_}
 use native.Mathlib.Omega.{arith}
 use native.Mathlib.Nat.{add-assoc}
-use lib.ListN.{length, drop, replicate, length-append, length-drop, length-replicate, getD-replicate, List·getD-append, List·getD-eq-default}
-use lib.Seq.{getD-append-add, drop-at}
+use lib.ListN.{length, take, drop, replicate, length-append, length-drop, length-replicate, getD-replicate, List·getD-append, List·getD-eq-default}
+use lib.Seq.{getD-append-add, take-append-seam, drop-at}
 use Rattle.trade.specs.Bytes.{byte, word, long, twoBytes, fourBytes, padded, over}
 use Rattle.trade.proofs.First.{lt-or-ge}
 
@@ -72,6 +72,11 @@ length-padded count bytes h = omega (arith, length-append bytes (replicate (coun
 pub length-over : (bytes buffer : List ℕ) → length bytes ≤ length buffer → length (over bytes buffer) ≡ length buffer
 unfolding over
 length-over bytes buffer h = omega (arith, length-append bytes (drop (length bytes) buffer), length-drop (length bytes) buffer)
+
+-- which is then its front
+pub take-over : (bytes buffer : List ℕ) → take (length bytes) (over bytes buffer) ≡ bytes
+unfolding over
+take-over bytes buffer = take-append-seam bytes (drop (length bytes) buffer)
 
 -- what is written over as many bytes leaves nothing of them
 pub over-over : (new old buffer : List ℕ) → length new ≡ length old → over new (over old buffer) ≡ over new buffer

@@ -17,5 +17,6 @@ pub mod Used
 pub mod Whole
 pub mod Calls
 pub mod Front
+pub mod RoundTrip
 pub mod Unique
 pub mod Cases

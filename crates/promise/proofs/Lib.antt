@@ -5,6 +5,7 @@ pub mod Refusals
 -- Demand 2
 pub mod Accepted
 pub mod Exact
+pub mod Tables
 -- Demand 3
 pub mod Slots
 pub mod Promise

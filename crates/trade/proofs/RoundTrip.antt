@@ -23,7 +23,7 @@ use Rattle.trade.proofs.First.{and-true}
 use Rattle.trade.proofs.Answers.{Passed, passed-none, passed-more, passed-head, passed-tail, passed-append, passed-done, given-passed, given-false}
 use Rattle.trade.proofs.Valid.{table-valid}
 use Rattle.trade.proofs.Alike.{Alike, Placed, table-placed, alike-allSteps, alike-code9, alike-bounds, alike-passed}
-use Rattle.trade.proofs.Used.{same-sections, used-alike, table-alike, table-used, Holds, length-used-rows, length-used-records, length-used-steps, book-table, roomy}
+use Rattle.trade.proofs.Used.{same-sections, used-alike, table-alike, table-used, Holds, length-used-rows, length-used-records, length-used-steps, length-trailer, length-book, book-table, roomy}
 use Rattle.trade.proofs.Whole.{passed-framed, passed-steps, book-holds, used-whole, book-parts}
 
 -- a part that stands between two others
@@ -38,15 +38,11 @@ part-between front between behind at count a c = ap (take count) (drop-at front 
 -- A TABLE THAT PASSES, with all of its used places, WRITTEN AS A BOOK
 module _ (t : Sections) (h : Holds t) (p : Passed t tableRules) where
   -- its trailer is read as it was written
-  length-trailer : length (trailerOf t) ≡ trailerBytes
-  unfolding trailerOf twoBytes
-  length-trailer = refl
-
   trailer-book : trailer (bookOf t) ≡ trailerOf t
   unfolding trailer bookOf
   trailer-book =
       let front : List ℕ = used t .rows ++ used t .records ++ used t .steps in
-      drop-at front (trailerOf t) (length (bookOf t) - trailerBytes) (omega (arith, length-append front (trailerOf t), length-trailer))
+      drop-at front (trailerOf t) (length (bookOf t) - trailerBytes) (omega (arith, length-append front (trailerOf t), length-trailer t))
 
   -- every distance fits two bytes
   distance-fits : rowsDistanceOf t < 2 ^ 16
@@ -73,23 +69,17 @@ module _ (t : Sections) (h : Holds t) (p : Passed t tableRules) where
   unfolding flowCount trailerOf twoBytes
   flow-count = rw trailer-book
 
-  -- the rows' distance is its length
-  pub book-length : length (bookOf t) ≡ rowsDistanceOf t
-  unfolding bookOf rowsDistanceOf recordsDistanceOf stepsDistanceOf
-  book-length =
-      simp length-append (omega (arith, length-used-rows t h, length-used-records t h, length-used-steps t h, length-trailer))
-
   -- its sections are the used places
   from-rows : length (bookOf t) - rowsDistance (bookOf t) ≡ 0
-  from-rows = omega (arith, book-length, rows-distance)
+  from-rows = omega (arith, length-book t h, rows-distance)
 
   from-records : length (bookOf t) - recordsDistance (bookOf t) ≡ rowBytes * t .nodes
   unfolding rowsDistanceOf
-  from-records = omega (arith, book-length, records-distance)
+  from-records = omega (arith, length-book t h, records-distance)
 
   from-steps : length (bookOf t) - stepsDistance (bookOf t) ≡ rowBytes * t .nodes + recordBytes * t .flows
   unfolding rowsDistanceOf recordsDistanceOf
-  from-steps = omega (arith, book-length, steps-distance)
+  from-steps = omega (arith, length-book t h, steps-distance)
 
   to-trailer : stepsDistance (bookOf t) - trailerBytes ≡ stepBytes * allSteps (factsOf t)
   unfolding stepsDistanceOf
@@ -130,7 +120,7 @@ module _ (t : Sections) (h : Holds t) (p : Passed t tableRules) where
   -- so it passes codes 1 to 8
   book-code1 : code1 (bookOf t) .code ≡ 0
   unfolding code1 rowsDistanceOf recordsDistanceOf stepsDistanceOf
-  book-code1 = ap (λ (a : Answer). a .code) (given-false 1 _ 0 (le-ltb (length (bookOf t)) trailerBytes (omega (arith, book-length))))
+  book-code1 = ap (λ (a : Answer). a .code) (given-false 1 _ 0 (le-ltb (length (bookOf t)) trailerBytes (omega (arith, length-book t h))))
 
   book-code2 : code2 (bookOf t) .code ≡ 0
   unfolding code2 given trailerOf twoBytes
@@ -151,7 +141,7 @@ module _ (t : Sections) (h : Holds t) (p : Passed t tableRules) where
         eq-eqb (recordsDistanceOf t) (stepsDistanceOf t + recordBytes * t .flows) refl,
         le-ltb (stepsDistanceOf t) trailerBytes (omega arith),
         ne-eqb (stepsDistanceOf t % 2) 1 (λ e. omega arith),
-        le-ltb (length (bookOf t)) (rowsDistanceOf t) (omega (arith, book-length)),
+        le-ltb (length (bookOf t)) (rowsDistanceOf t) (omega (arith, length-book t h)),
       )))
 
   book-code7 : code7 (bookOf t) .code ≡ 0

@@ -5,10 +5,10 @@ use mathlib.Core.Path.{_≡_, refl, sym, _∙_, ap, ap₂}
 use mathlib.Core.Logic.{⊎-elim}
 use mathlib.Core.List.{List, _++_}
 use native.Mathlib.Omega.{arith}
-use lib.ListN.{length, take, length-take, List·getD-eq-default}
+use lib.ListN.{length, take, length-append, length-take, List·getD-eq-default}
 use lib.Seq.{length-take-le, take-take, take-at, getD-take, ext-getD}
-use Rattle.trade.specs.Limits.{mostSteps, rowBytes, recordBytes, stepBytes}
-use Rattle.trade.specs.Bytes.{byte, word, bit, padded}
+use Rattle.trade.specs.Limits.{mostSteps, rowBytes, recordBytes, stepBytes, trailerBytes}
+use Rattle.trade.specs.Bytes.{byte, word, twoBytes, bit, padded}
 use Rattle.trade.specs.Layout.{Sections, field}
 use Rattle.trade.specs.Facts.{disturbsIn, stepIn, factsOf, firstStep, allSteps}
 use Rattle.trade.specs.Table.{stepsDistanceOf, recordsDistanceOf, rowsDistanceOf, trailerOf, used, bookOf, rowsRoom, recordsRoom, stepsRoom, InMemory, tableOf}
@@ -126,6 +126,11 @@ module _ (s : Sections) where
       })
       used-used
 
+-- a trailer has ten bytes
+pub length-trailer : (s : Sections) → length (trailerOf s) ≡ trailerBytes
+unfolding trailerOf twoBytes
+length-trailer s = refl
+
 -- sections that hold all of their used places
 pub record Holds (s : Sections) : Type 0 where
   pub rows : rowBytes * s .nodes ≤ length (s .rows)
@@ -144,6 +149,11 @@ module _ (s : Sections) (h : Holds s) where
   pub length-used-steps : length (used s .steps) ≡ stepBytes * allSteps (factsOf s)
   unfolding used
   length-used-steps = length-take-le _ (s .steps) (h .steps)
+
+  -- and of its book that length is the rows' distance
+  pub length-book : length (bookOf s) ≡ rowsDistanceOf s
+  unfolding bookOf rowsDistanceOf recordsDistanceOf stepsDistanceOf
+  length-book = simp length-append (omega (arith, length-used-rows, length-used-records, length-used-steps, length-trailer s))
 
   -- the zeros behind them are not used
   pub used-table : used (tableOf s) ≡ used s

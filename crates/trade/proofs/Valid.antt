@@ -24,7 +24,7 @@ pub record Within (low high v : ℕ) : Type 0 where
   pub least : low ≤ v
   pub most : v ≤ high
 
-outside-false : (low high v : ℕ) → outside low high v ≡ false → Within low high v
+pub outside-false : (low high v : ℕ) → outside low high v ≡ false → Within low high v
 unfolding outside
 outside-false low high v e =
     let (l, h) = or-false (ltb v low) (ltb high v) e in

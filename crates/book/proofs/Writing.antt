@@ -1,30 +1,27 @@
--- What a write answers and leaves, by what has passed. Leans on Pasting. Assumes nothing.
+-- What a write answers and leaves, by what has passed. Leans on the trade's Used and Calls. Assumes nothing.
 use Prim.Native.Nat.{ℕ, _+_, _*_, _≤_, _<_}
-use mathlib.Core.Path.{_≡_, refl, sym, _∙_, ap, ap₂}
-use mathlib.Core.Bool.{Bool, true, false, cond}
-use mathlib.Core.List.{List, [], _∷_, _++_}
+use mathlib.Core.Path.{_≡_, sym, _∙_, ap}
+use mathlib.Core.Bool.{cond}
+use mathlib.Core.List.{List, [], _∷_}
 use native.Mathlib.Omega.{arith}
 use lib.Dec.{ltb}
-use lib.ListN.{length, length-append}
-use lib.Seq.{length-take-le}
-use borrow.Author.Tests.{eq-eqb, ne-eqb, lt-ltb, le-ltb}
+use lib.ListN.{length}
+use borrow.Author.Tests.{eq-eqb, ne-eqb, lt-ltb}
 use Rattle.trade.specs.Limits.{mostNodes, mostFlows, mostSteps, rowBytes, recordBytes, stepBytes, trailerBytes}
-use Rattle.trade.specs.First.{sumTo}
-use Rattle.trade.specs.Bytes.{twoBytes, over}
+use Rattle.trade.specs.Bytes.{over}
 use Rattle.trade.specs.Layout.{Sections, field}
 use Rattle.trade.specs.Facts.{factsOf, firstStep, allSteps}
-use Rattle.trade.specs.Table.{InMemory, rowsDistanceOf, recordsDistanceOf, stepsDistanceOf, bookOf}
+use Rattle.trade.specs.Table.{rowsDistanceOf, recordsDistanceOf, stepsDistanceOf, bookOf}
 use Rattle.trade.specs.Answers.{done, refused, isDone, given, firstOf, noNumber}
-use Rattle.trade.specs.Codes.{outside, code3, code13}
-use Rattle.trade.specs.Calls.{Writing, tableRules, writeAnswer, writeOf}
+use Rattle.trade.specs.Codes.{code13}
+use Rattle.trade.specs.Calls.{Writing, Written, tableRules, writeAnswer, writeOf}
 use Rattle.trade.specs.declared.answer.Answer.{Answer}
-use Rattle.trade.proofs.First.{or-false}
 use Rattle.trade.proofs.Sums.{sum-most}
-use Rattle.trade.proofs.Answers.{Passed, passed-none, passed-done, passed-head, passed-tail, firstOf-passed, firstOf-on, firstOf-pass, firstOf-refuse, given-passed, given-true, given-false}
-use Rattle.trade.proofs.Valid.{Valid, valid}
-use Rattle.book.specs.Written.{trailerWith, Room, Writes}
-use Rattle.book.proofs.Frames.{inside}
-use Rattle.book.proofs.Pasting.{rowsPart, recordsPart, stepsPart, tailPart, book-parts}
+use Rattle.trade.proofs.Answers.{firstOf-passed, firstOf-on, firstOf-refuse, given-true}
+use Rattle.trade.proofs.Valid.{table-valid}
+use Rattle.trade.proofs.Used.{Holds, length-book}
+use Rattle.trade.proofs.Calls.{written}
+use Rattle.book.specs.Written.{Room, Writes}
 
 -- a table that passes: its counts are in range, and so is the sum of its L
 pub record Sized (t : Sections) : Type 0 where
@@ -33,14 +30,11 @@ pub record Sized (t : Sections) : Type 0 where
   pub plans : allSteps (factsOf t) ≤ mostSteps * t .flows
 
 pub sized : (t : Sections) → firstOf tableRules noNumber t .code ≡ 0 → Sized t
-unfolding tableRules code3 allSteps firstStep factsOf
+unfolding allSteps firstStep factsOf
 sized t e =
-    let p = firstOf-passed tableRules noNumber t e in
-    let three = passed-head p in
-    let v = valid (factsOf t) three (passed-head (passed-tail (passed-tail p))) in
-    let counts = or-false (outside 1 mostNodes (factsOf t .nodes)) (outside 0 mostFlows (factsOf t .flows)) (given-passed 2 _ 0 three) in
+    let v = table-valid t (firstOf-passed tableRules noNumber t e) in
     record {
-      nodes = inside 1 mostNodes (t .nodes) (counts .0) .1;
+      nodes = v .nodes .most;
       flows = v .flows;
       plans = sum-most (λ i. field (t .records) i 4) mostSteps (t .flows) (λ i h. v .records i h .len .most);
     }
@@ -50,16 +44,10 @@ pub book-length :
     (t : Sections) (all room : ℕ)
     → Room t all room
     → length (bookOf t) ≡ rowBytes * t .nodes + recordBytes * t .flows + stepBytes * all + trailerBytes
-unfolding trailerWith twoBytes
+unfolding rowsDistanceOf recordsDistanceOf stepsDistanceOf
 book-length t all room r =
-    let n₁ = length-take-le (rowBytes * t .nodes) (t .rows) (r .rows) in
-    let n₂ = length-take-le (recordBytes * t .flows) (t .records) (r .records) in
-    let n₃ = length-take-le (stepBytes * all) (t .steps) (r .steps) in
-    ap length (sym (book-parts t all room r))
-    ∙ length-append (rowsPart t ++ recordsPart t ++ stepsPart t all) (tailPart t all)
-    ∙ ap (λ (k : ℕ). k + trailerBytes)
-    (length-append (rowsPart t ++ recordsPart t) (stepsPart t all)
-    ∙ ap₂ (λ (a b : ℕ). a + b) (length-append (rowsPart t) (recordsPart t) ∙ ap₂ (λ (a b : ℕ). a + b) n₁ n₂) n₃)
+    let whole : Holds t = record { rows = r .rows; records = r .records; steps = omega (arith, r .all, r .steps) } in
+    length-book t whole ∙ omega (arith, r .all)
 
 module _ (t : Sections) (d : List ℕ) where
   by-rules :
@@ -93,11 +81,6 @@ module _ (t : Sections) (d : List ℕ) where
 
   -- done
   pub write-done : firstOf tableRules noNumber t .code ≡ 0 → length (bookOf t) ≤ length d → Writes t d (done (length (bookOf t))) (over (bookOf t) d)
-  unfolding isDone code13 writeOf
   write-done e h =
-      let room = given-false 13 _ 0 (le-ltb (length d) (length (bookOf t)) h) in
-      let a : writeAnswer (record { table = t; buffer = d }) ≡ done (length (bookOf t)) =
-      by-rules
-      ∙ rw (eq-eqb (firstOf tableRules noNumber t .code) 0 e)
-      (firstOf-pass {A = Writing} _ _ _ (record { table = t; buffer = d }) (ap (λ (r : Answer). r .code) room) ∙ passed-done {A = Writing} _ passed-none) in
-      record { answer = sym a; buffer = rw a }
+      let w = written t d (firstOf-passed tableRules noNumber t e) h in
+      record { answer = sym (ap (λ (r : Written). r .answer) w); buffer = sym (ap (λ (r : Written). r .buffer) w) }

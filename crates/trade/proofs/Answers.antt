@@ -8,7 +8,7 @@ use mathlib.Core.Logic.{_⊎_, inl, inr, ⊎-elim}
 use lib.Dec.{eqb}
 use borrow.Author.Tests.{eqb-true, eqb-false, eq-eqb, ne-eqb}
 use native.Mathlib.Omega.{arith}
-use Rattle.trade.proofs.First.{bool-cases, some-intro, some-none, some-false, first-unique}
+use Rattle.trade.proofs.First.{bool-cases, some-intro, some-none, some-false, some-cong, first-unique, first-cong}
 use Rattle.trade.specs.First.{first, some}
 use Rattle.trade.specs.Answers.{done, refused, isDone, given, givenFirst, firstOf, on, noNumber}
 use Rattle.trade.specs.declared.answer.Answer.{Answer}
@@ -72,6 +72,11 @@ unfolding on
 passed-on look passed-none = passed-none
 passed-on look (passed-more e p) = passed-more e (passed-on look p)
 
+pub passed-look : {A B : Type 0} (look : B → A) {x : B} (rules : List (A → Answer)) → Passed x (on look rules) → Passed (look x) rules
+unfolding on
+passed-look look [] p = passed-none
+passed-look look (rule ∷ rules) p = passed-more (passed-head p) (passed-look look rules (passed-tail p))
+
 -- a call that is done passed every rule, and one that passed every rule is done
 pub firstOf-passed : {A : Type 0} (rules : List (A → Answer)) (number : A → ℕ) (x : A) → firstOf rules number x .code ≡ 0 → Passed x rules
 unfolding isDone
@@ -129,6 +134,11 @@ givenFirst-at code bad n i l before holds =
 pub givenFirst-none : (code : ℕ) (bad : ℕ → Bool) (n : ℕ) → ((j : ℕ) → j < n → bad j ≡ false) → givenFirst code bad n ≡ done 0
 unfolding givenFirst given
 givenFirst-none code bad n before = rw (some-none bad n before)
+
+-- tests that agree below n give the same code
+pub givenFirst-same : (code : ℕ) (bad other : ℕ → Bool) (n m : ℕ) → n ≡ m → ((j : ℕ) → j < n → bad j ≡ other j) → givenFirst code bad n ≡ givenFirst code other m
+unfolding givenFirst
+givenFirst-same code bad other n m e same = rw (some-cong bad other n same, first-cong bad other n same, e)
 
 -- and a code that is given by one condition
 pub given-true : (code : ℕ) (test : Bool) (number : ℕ) → test ≡ true → given code test number ≡ refused code number

@@ -1,4 +1,5 @@
--- The first refusal of a list of rules: two inputs that no rule tells apart have the same answer. Leans on nothing. Assumes nothing.
+-- The first refusal of a list of rules: two inputs that no rule tells apart have the same answer, and a call is done exactly when
+-- every rule passed. Leans on nothing. Assumes nothing.
 use Prim.Native.Nat.{ℕ, suc, _<_}
 use mathlib.Core.Path.{_≡_, refl, ap, sym, _∙_}
 use mathlib.Core.Bool.{Bool, true, false, cond}
@@ -7,7 +8,8 @@ use mathlib.Core.Logic.{_⊎_, inl, inr, ⊎-elim}
 use lib.Dec.{eqb}
 use borrow.Author.Tests.{eqb-true, eqb-false, eq-eqb, ne-eqb}
 use native.Mathlib.Omega.{arith}
-use Rattle.trade.proofs.First.{bool-cases, some-intro, some-none, first-unique}
+use Rattle.trade.proofs.First.{bool-cases, some-intro, some-none, some-false, first-unique}
+use Rattle.trade.specs.First.{first, some}
 use Rattle.trade.specs.Answers.{done, refused, isDone, given, givenFirst, firstOf, on, noNumber}
 use Rattle.trade.specs.declared.answer.Answer.{Answer}
 
@@ -41,22 +43,82 @@ firstOf-same {x = x} {y = y} number (same-more {rule = rule} {rules = rules} e s
     let rest = firstOf-same number s n in
     firstOf-rule rule rules number x ∙ rw (e, rest) refl ∙ sym (firstOf-rule rule rules number y)
 
--- a call that is done passed every rule, and has its number
-pub firstOf-done : {A : Type 0} (rules : List (A → Answer)) (number : A → ℕ) (x : A) → firstOf rules number x .code ≡ 0 → firstOf rules number x ≡ done (number x)
-unfolding firstOf isDone
-firstOf-done [] number x e = refl
-firstOf-done (rule ∷ rules) number x e = step (λ q. firstOf-done rules number x q) (bool-cases (isDone (rule x)))
+-- every rule passed
+pub data Passed {A : Type 0} (x : A) : List (A → Answer) → Type 0 where
+  passed-none : Passed x []
+  passed-more : {rule : A → Answer} {rules : List (A → Answer)} → rule x .code ≡ 0 → Passed x rules → Passed x (rule ∷ rules)
+
+pub passed-head : {A : Type 0} {x : A} {rule : A → Answer} {rules : List (A → Answer)} → Passed x (rule ∷ rules) → rule x .code ≡ 0
+passed-head (passed-more e p) = e
+
+pub passed-tail : {A : Type 0} {x : A} {rule : A → Answer} {rules : List (A → Answer)} → Passed x (rule ∷ rules) → Passed x rules
+passed-tail (passed-more e p) = p
+
+pub passed-append : {A : Type 0} {x : A} {rules more : List (A → Answer)} → Passed x rules → Passed x more → Passed x (rules ++ more)
+passed-append passed-none m = m
+passed-append (passed-more e p) m = passed-more e (passed-append p m)
+
+-- of rules put together, the first and the others
+pub passed-first : {A : Type 0} {x : A} (rules more : List (A → Answer)) → Passed x (rules ++ more) → Passed x rules
+passed-first [] more p = passed-none
+passed-first (rule ∷ rules) more p = passed-more (passed-head p) (passed-first rules more (passed-tail p))
+
+pub passed-others : {A : Type 0} {x : A} (rules more : List (A → Answer)) → Passed x (rules ++ more) → Passed x more
+passed-others [] more p = p
+passed-others (rule ∷ rules) more p = passed-others rules more (passed-tail p)
+
+pub passed-on : {A B : Type 0} (look : B → A) {x : B} {rules : List (A → Answer)} → Passed (look x) rules → Passed x (on look rules)
+unfolding on
+passed-on look passed-none = passed-none
+passed-on look (passed-more e p) = passed-more e (passed-on look p)
+
+-- a call that is done passed every rule, and one that passed every rule is done
+pub firstOf-passed : {A : Type 0} (rules : List (A → Answer)) (number : A → ℕ) (x : A) → firstOf rules number x .code ≡ 0 → Passed x rules
+unfolding isDone
+firstOf-passed [] number x e = passed-none
+firstOf-passed (rule ∷ rules) number x e = step (λ q. firstOf-passed rules number x q) (bool-cases (isDone (rule x)))
   where
     step :
-        (firstOf rules number x .code ≡ 0 → firstOf rules number x ≡ done (number x))
+        (firstOf rules number x .code ≡ 0 → Passed x rules)
         → (isDone (rule x) ≡ true) ⊎ (isDone (rule x) ≡ false)
-        → firstOf (rule ∷ rules) number x ≡ done (number x)
+        → Passed x (rule ∷ rules)
     step rest (inl d) =
-        let e' : firstOf (rule ∷ rules) number x ≡ firstOf rules number x = firstOf-rule rule rules number x ∙ rw d refl in
-        e' ∙ rest (sym (ap (λ (a : Answer). a .code) e') ∙ e)
+        let others : firstOf (rule ∷ rules) number x ≡ firstOf rules number x = firstOf-rule rule rules number x ∙ rw d refl in
+        passed-more (eqb-true (rule x .code) 0 d) (rest (sym (ap (λ (a : Answer). a .code) others) ∙ e))
     step rest (inr d) =
-        let e' : firstOf (rule ∷ rules) number x ≡ rule x = firstOf-rule rule rules number x ∙ rw d refl in
-        absurd (eqb-false (rule x .code) 0 d (sym (ap (λ (a : Answer). a .code) e') ∙ e))
+        let this : firstOf (rule ∷ rules) number x ≡ rule x = firstOf-rule rule rules number x ∙ rw d refl in
+        absurd (eqb-false (rule x .code) 0 d (sym (ap (λ (a : Answer). a .code) this) ∙ e))
+
+pub passed-done : {A : Type 0} {x : A} {rules : List (A → Answer)} (number : A → ℕ) → Passed x rules → firstOf rules number x ≡ done (number x)
+unfolding firstOf isDone
+passed-done number passed-none = refl
+passed-done {x = x} number (passed-more {rule = rule} {rules = rules} e p) =
+    firstOf-rule rule rules number x ∙ rw (eq-eqb (rule x .code) 0 e) (passed-done number p)
+
+-- so a call that is done has its number
+pub firstOf-done : {A : Type 0} (rules : List (A → Answer)) (number : A → ℕ) (x : A) → firstOf rules number x .code ≡ 0 → firstOf rules number x ≡ done (number x)
+firstOf-done rules number x e = passed-done number (firstOf-passed rules number x e)
+
+-- rules that passed, and then one that refuses: its refusal is the answer
+pub passed-refused :
+    {A : Type 0} {x : A} {rules : List (A → Answer)} (rule : A → Answer) (more : List (A → Answer)) (number : A → ℕ)
+    → Passed x rules
+    → (rule x .code ≡ 0 → ⊥)
+    → firstOf (rules ++ (rule ∷ more)) number x ≡ rule x
+unfolding isDone
+passed-refused {x = x} rule more number passed-none n = firstOf-rule rule more number x ∙ rw (ne-eqb (rule x .code) 0 n)
+passed-refused {x = x} rule more number (passed-more {rule = first} {rules = rules} e p) n =
+    firstOf-rule first (rules ++ (rule ∷ more)) number x ∙ rw (eq-eqb (first x .code) 0 e) (passed-refused rule more number p n)
+
+-- what a rule that passed says: its condition does not hold, or no place is bad
+pub given-passed : (code : ℕ) (test : Bool) (number : ℕ) → given (suc code) test number .code ≡ 0 → test ≡ false
+unfolding given
+given-passed code true number e = absurd (omega arith)
+given-passed code false number e = refl
+
+pub givenFirst-passed : (code : ℕ) (bad : ℕ → Bool) (n : ℕ) → givenFirst (suc code) bad n .code ≡ 0 → (j : ℕ) → j < n → bad j ≡ false
+unfolding givenFirst
+givenFirst-passed code bad n e = some-false bad n (given-passed code (some bad n) (first bad n) e)
 
 -- a code that is given at the first bad place, where a search found one, and where it found none
 pub givenFirst-at : (code : ℕ) (bad : ℕ → Bool) (n i : ℕ) → i < n → ((j : ℕ) → j < i → bad j ≡ false) → bad i ≡ true → givenFirst code bad n ≡ refused code i

@@ -14,13 +14,13 @@ use Rattle.trade.specs.Bytes.{part}
 use Rattle.trade.specs.Layout.{Sections, trailer, rowsDistance, recordsDistance, stepsDistance, nodeCount, flowCount, sectionsOf}
 use Rattle.trade.specs.Facts.{Facts, factsOf, said}
 use Rattle.trade.specs.Table.{stepsDistanceOf, tableOf, emptyTable}
-use Rattle.trade.specs.Answers.{given, noNumber}
+use Rattle.trade.specs.Answers.{noNumber}
 use Rattle.trade.specs.Area.{stateIn}
 use Rattle.trade.specs.Codes.{code1, code2, code3, code4, code5, code6, code7, code8, code9, code10, code11, code13}
 use Rattle.trade.specs.Calls.{bookRules, checkRules, readAnswer, checkAnswer, startAnswer, advanceAnswer, readOf, checkOf, startOf, advanceOf, Starting, Advancing, flowsGranted, grantsIn, nextArea}
 use Rattle.trade.specs.declared.answer.Answer.{Answer}
 use Rattle.trade.proofs.First.{bool-cases, not-both, or-false}
-use Rattle.trade.proofs.Answers.{Same, same-none, same-more, same-append, same-on, firstOf-same}
+use Rattle.trade.proofs.Answers.{Same, same-none, same-more, same-append, same-on, firstOf-same, given-passed}
 
 -- what codes 1 and 4 leave of a slice that passes them: the trailer is there, and the three sections lie in the slice
 pub record Framed (b : List ℕ) : Type 0 where
@@ -28,11 +28,6 @@ pub record Framed (b : List ℕ) : Type 0 where
   pub rows : rowsDistance b ≤ length b
   pub records : recordsDistance b ≤ length b
   pub steps : stepsDistance b ≤ length b
-
-given-passed : (code : ℕ) (test : Bool) (number : ℕ) → given (suc code) test number .code ≡ 0 → test ≡ false
-unfolding given
-given-passed code true number e = absurd (omega arith)
-given-passed code false number e = refl
 
 pub framed : (b : List ℕ) → code1 b .code ≡ 0 → code4 b .code ≡ 0 → Framed b
 unfolding code1 code4

@@ -6,6 +6,7 @@ use mathlib.Core.List.{List, [], _∷_}
 use native.Mathlib.Omega.{arith}
 use native.Mathlib.Nat.{zero-add, add-le-add, le-trans, le-max-left, le-max-right, max-le, max-eq-left, max-eq-right}
 use lib.ListN.{length, getD}
+use lib.Seq.{ext-getD}
 use Rattle.trade.specs.First.{sumTo, largestFrom, listFrom, listTo}
 use Rattle.trade.proofs.First.{lt-or-ge}
 
@@ -84,3 +85,11 @@ length-listTo f n = length-listFrom f 0 n
 pub getD-listTo : (f : ℕ → ℕ) (n j : ℕ) → j < n → getD (listTo f n) j 0 ≡ f j
 unfolding listTo
 getD-listTo f n j h = getD-listFrom f 0 n j h ∙ ap f (zero-add j)
+
+-- figures that agree below n make the same list
+pub listTo-same : (f g : ℕ → ℕ) (n : ℕ) → ((i : ℕ) → i < n → f i ≡ g i) → listTo f n ≡ listTo g n
+listTo-same f g n e =
+    ext-getD 0 (listTo f n) (listTo g n) (length-listTo f n ∙ sym (length-listTo g n))
+    (λ i h.
+    let i< : i < n = omega (arith, length-listTo f n) in
+    getD-listTo f n i i< ∙ e i i< ∙ sym (getD-listTo g n i i<))

@@ -1,0 +1,10 @@
+-- The demands are kept by every program that meets its contracts.
+pub mod Meets
+-- Demand 1
+pub mod Refusals
+-- Demand 3
+pub mod Accepted
+pub mod Slots
+pub mod Promise
+-- The empty programs
+pub mod Empty

@@ -1,0 +1,80 @@
+-- The run area: a run that was written is read back, and no more of it counts than the book's flows. Leans on Bytes and Agree.
+-- Assumes nothing.
+use Prim.Native.Nat.{ℕ, _^_, _≤_, _<_}
+use mathlib.Core.Path.{_≡_, _∙_, ap₂}
+use mathlib.Core.Bool.{true, false, cond}
+use mathlib.Core.Logic.{⊎-elim}
+use mathlib.Core.List.{List, _++_, append-assoc}
+use native.Mathlib.Omega.{arith}
+use lib.Dec.{ltb}
+use lib.ListN.{length, drop, length-append, List·getD-append}
+use borrow.Author.Tests.{ltb-true, lt-ltb, le-ltb}
+use Rattle.trade.specs.Limits.{mostFlows, slotBytes, areaBytes}
+use Rattle.trade.specs.First.{listTo}
+use Rattle.trade.specs.Bytes.{fourBytes, over}
+use Rattle.trade.specs.Facts.{Facts}
+use Rattle.trade.specs.Slot.{State}
+use Rattle.trade.specs.Area.{stateIn, areaOf}
+use Rattle.trade.proofs.First.{bool-cases}
+use Rattle.trade.proofs.Sums.{length-listTo, getD-listTo, listTo-same}
+use Rattle.trade.proofs.Bytes.{byte-behind, long-fourBytes, length-fourBytes}
+use Rattle.trade.proofs.Agree.{Agree}
+
+-- the byte of a place: the steps done, or 0 where it is unused
+abbrev pub placeOf : ℕ → State → ℕ → ℕ
+placeOf flows s i = cond (ltb i flows) (s .done i) 0
+
+pub length-area : (flows : ℕ) (s : State) → length (areaOf flows s) ≡ areaBytes
+unfolding areaOf
+length-area flows s =
+    omega (
+      arith,
+      length-append (fourBytes (s .slot)) (listTo (placeOf flows s) mostFlows),
+      length-fourBytes (s .slot),
+      length-listTo (placeOf flows s) mostFlows,
+    )
+
+module _ (flows : ℕ) (s : State) (lent : List ℕ) where
+  -- the slot is read back
+  pub area-slot : s .slot < 2 ^ 32 → stateIn (over (areaOf flows s) lent) .slot ≡ s .slot
+  unfolding stateIn areaOf over
+  area-slot h = rw append-assoc (long-fourBytes (s .slot) _ h)
+
+  -- and so is each place
+  pub area-place : (i : ℕ) → i < mostFlows → stateIn (over (areaOf flows s) lent) .done i ≡ placeOf flows s i
+  unfolding stateIn areaOf over
+  area-place i h =
+      let places : List ℕ = listTo (placeOf flows s) mostFlows in
+      rw append-assoc
+      (byte-behind (fourBytes (s .slot)) (places ++ drop (length (areaOf flows s)) lent) slotBytes i (length-fourBytes (s .slot))
+      ∙ List·getD-append places _ 0 i (omega (arith, length-listTo (placeOf flows s) mostFlows))
+      ∙ getD-listTo (placeOf flows s) mostFlows i h)
+
+  pub area-used : (i : ℕ) → i < mostFlows → i < flows → stateIn (over (areaOf flows s) lent) .done i ≡ s .done i
+  area-used i h l = area-place i h ∙ rw (lt-ltb i flows l)
+
+  pub area-unused : (i : ℕ) → i < mostFlows → flows ≤ i → stateIn (over (areaOf flows s) lent) .done i ≡ 0
+  area-unused i h l = area-place i h ∙ rw (le-ltb i flows l)
+
+-- what is read back agrees with what was written
+pub area-agrees :
+    (f : Facts) (s : State) (lent : List ℕ)
+    → f .flows ≤ mostFlows
+    → s .slot < 2 ^ 32
+    → Agree f (stateIn (over (areaOf (f .flows) s) lent)) s
+area-agrees f s lent m h =
+    record {
+      slot = area-slot (f .flows) s lent h;
+      done = λ i l. area-used (f .flows) s lent i (omega arith) l;
+    }
+
+-- runs that agree are written alike
+pub agree-area : (f : Facts) (s u : State) → Agree f s u → areaOf (f .flows) s ≡ areaOf (f .flows) u
+unfolding areaOf
+agree-area f s u a =
+    ap₂ (λ (v : ℕ) (places : List ℕ). fourBytes v ++ places) (a .slot) (listTo-same (placeOf (f .flows) s) (placeOf (f .flows) u) mostFlows same)
+  where
+    same : (i : ℕ) → i < mostFlows → placeOf (f .flows) s i ≡ placeOf (f .flows) u i
+    same i h =
+        ⊎-elim (λ (e : ltb i (f .flows) ≡ true). rw e (a .done i (ltb-true i (f .flows) e))) (λ (e : ltb i (f .flows) ≡ false). rw e)
+        (bool-cases (ltb i (f .flows)))

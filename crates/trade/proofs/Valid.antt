@@ -1,0 +1,92 @@
+-- What a book that passes the rules says: its counts and the fields of its records are within their ranges, no two flows have one
+-- id, and where check passes it every flow has a bound. Leans on Answers and Bound. Assumes nothing.
+use Prim.Native.Nat.{ℕ, _≤_, _<_}
+use mathlib.Core.Path.{_≡_, sym}
+use mathlib.Core.Bool.{false}
+use mathlib.Core.Logic.{⊎-elim}
+use mathlib.Core.List.{List}
+use native.Mathlib.Omega.{arith}
+use lib.Dec.{eqb, ltb}
+use borrow.Author.Tests.{ltb-false, eqb-false}
+use Rattle.trade.specs.Limits.{mostNodes, mostFlows, mostId, mostPhase, mostPeriod, mostSteps}
+use Rattle.trade.specs.Facts.{Facts, said}
+use Rattle.trade.specs.Bound.{Admissible, bound}
+use Rattle.trade.specs.Codes.{outside, badRecord, code3, code6, code9}
+use Rattle.trade.specs.Calls.{bookRules, checkRules}
+use Rattle.trade.proofs.First.{or-false, lt-or-ge, some-false}
+use Rattle.trade.proofs.Answers.{Passed, passed-head, passed-tail, passed-others, given-passed, givenFirst-passed}
+use Rattle.trade.proofs.Bound.{bound-admissible, boundless-false}
+
+-- a number within a range
+pub record Within (low high v : ℕ) : Type 0 where
+  pub least : low ≤ v
+  pub most : v ≤ high
+
+outside-false : (low high v : ℕ) → outside low high v ≡ false → Within low high v
+unfolding outside
+outside-false low high v e =
+    let (l, h) = or-false (ltb v low) (ltb high v) e in
+    record { least = ltb-false v low l; most = ltb-false high v h }
+
+-- a record whose fields are within their ranges, and whose id no earlier record has
+pub record Sound (f : Facts) (i : ℕ) : Type 0 where
+  pub id : Within 1 mostId (f .id i)
+  pub new : (j : ℕ) → j < i → f .id j ≡ f .id i → ⊥
+  pub phase : Within 0 mostPhase (f .phase i)
+  pub period : Within 1 mostPeriod (f .period i)
+  pub deadline : Within 1 (f .period i) (f .deadline i)
+  pub len : Within 1 mostSteps (f .len i)
+
+pub sound : (f : Facts) (i : ℕ) → badRecord f i ≡ false → Sound f i
+unfolding badRecord
+sound f i e =
+    let (e₅, len) = or-false _ _ e in
+    let (e₄, deadline) = or-false _ _ e₅ in
+    let (e₃, period) = or-false _ _ e₄ in
+    let (e₂, phase) = or-false _ _ e₃ in
+    let (id, new) = or-false _ _ e₂ in
+    record {
+      id = outside-false _ _ _ id;
+      new = λ j h. eqb-false _ _ (some-false (λ k. eqb (f .id k) (f .id i)) i new j h);
+      phase = outside-false _ _ _ phase;
+      period = outside-false _ _ _ period;
+      deadline = outside-false _ _ _ deadline;
+      len = outside-false _ _ _ len;
+    }
+
+-- facts that pass codes 3 and 6
+pub record Valid (f : Facts) : Type 0 where
+  pub flows : f .flows ≤ mostFlows
+  pub records : (i : ℕ) → i < f .flows → Sound f i
+
+pub valid : (f : Facts) → code3 f .code ≡ 0 → code6 f .code ≡ 0 → Valid f
+unfolding code3 code6
+valid f e3 e6 =
+    record {
+      flows = outside-false 0 mostFlows (f .flows) (or-false (outside 1 mostNodes (f .nodes)) (outside 0 mostFlows (f .flows)) (given-passed 2 _ 0 e3) .1) .most;
+      records = λ i h. sound f i (givenFirst-passed 5 (badRecord f) (f .flows) e6 i h);
+    }
+
+-- flows of one id are one flow
+pub same-flow : (f : Facts) → Valid f → (i j : ℕ) → i < f .flows → j < f .flows → f .id i ≡ f .id j → i ≡ j
+same-flow f v i j i< j< e =
+    ⊎-elim (λ (below : i < j). absurd (v .records j j< .new i below e))
+    (λ (h : j ≤ i).
+    ⊎-elim (λ (above : j < i). absurd (v .records i i< .new j above (sym e))) (λ (g : i ≤ j). omega arith) (lt-or-ge j i))
+    (lt-or-ge i j)
+
+-- a book that passes rules 1 to 8 is valid
+pub book-valid : (b : List ℕ) → Passed b bookRules → Valid (said b)
+unfolding bookRules
+book-valid b p =
+    let p3 = passed-tail (passed-tail p) in
+    let p6 = passed-tail (passed-tail (passed-tail p3)) in
+    valid (said b) (passed-head p3) (passed-head p6)
+
+-- and where check passes it, each flow's bound is admissible
+pub check-bounds :
+    (b : List ℕ) → Passed b checkRules → (l : ℕ) → l < said b .flows → Admissible (said b) (said b .deadline) l (bound (said b) l)
+unfolding checkRules code9 bound
+check-bounds b p l h =
+    bound-admissible (said b) (said b .deadline) l
+    (boundless-false (said b) l (givenFirst-passed 8 _ (said b .flows) (passed-head (passed-others bookRules _ p)) l h))

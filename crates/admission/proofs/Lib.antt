@@ -1,0 +1,5 @@
+-- Laws that belong to no one function.
+pub mod Ceil
+pub mod Iteration
+pub mod Padded
+pub mod Formed

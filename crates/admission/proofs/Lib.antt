@@ -3,3 +3,5 @@ pub mod Ceil
 pub mod Iteration
 pub mod Padded
 pub mod Formed
+pub mod Alike
+pub mod Outcome

@@ -16,11 +16,12 @@ use Rattle.trade.specs.Facts.{factsOf, factsIn, said, firstStep, allSteps}
 use Rattle.trade.specs.First.{sumTo}
 use Rattle.trade.specs.Table.{stepsDistanceOf}
 use Rattle.trade.specs.Answers.{done, refused, given, isDone, firstOf, noNumber}
-use Rattle.trade.specs.Codes.{outside, badRow, badRecord, firstOfPlan, badStep, code1, code2, code3, code4, code5, code6, code7, code8}
+use Rattle.trade.specs.Codes.{outside, code1, code2, code3, code4, code5, code6, code7, code8}
 use Rattle.trade.specs.Calls.{bookRules, readAnswer}
 use Rattle.trade.specs.declared.answer.Answer.{Answer}
 use Rattle.trade.proofs.First.{or-false}
 use Rattle.trade.proofs.Answers.{firstOf-rule, firstOf-pass, firstOf-refuse, given-true, given-false}
+use Rattle.book.proofs.OwnSections.{code5-rows, code6-records, code8-steps}
 use Rattle.book.specs.Frame.{trailerIn, astray, trailerAnswer, frameBy, frameOf, noFrame, Lies, sectionRules, openedOf}
 use Rattle.book.specs.declared.parts.Frame.{Frame}
 use Rattle.book.specs.declared.parts.Trailer.{Trailer}
@@ -68,16 +69,16 @@ module _ (slice : List ℕ) (f : Frame) (l : Lies slice f) where
   counts = (at (λ g. g .nodes), at (λ g. g .flows))
 
   pub code5-lies : code5 (factsIn (f .nodes) 0 (sectionsOf slice .rows) [] []) ≡ code5 (said slice)
-  unfolding said code5 badRow factsOf
-  code5-lies = rw (counts .0)
+  unfolding said
+  code5-lies = rw (counts .0) (code5-rows (sectionsOf slice))
 
   pub code6-lies : code6 (factsIn 0 (f .flows) [] (sectionsOf slice .records) []) ≡ code6 (said slice)
-  unfolding said code6 badRecord factsOf
-  code6-lies = rw (counts .1)
+  unfolding said
+  code6-lies = rw (counts .1) (code6-records (sectionsOf slice))
 
   pub code8-lies : code8 (factsIn (f .nodes) (f .flows) [] (sectionsOf slice .records) (sectionsOf slice .steps)) ≡ code8 (said slice)
-  unfolding said code8 badStep firstOfPlan firstStep allSteps factsOf
-  code8-lies = rw (counts .0, counts .1)
+  unfolding said
+  code8-lies = rw (counts .0, counts .1) (code8-steps (sectionsOf slice))
 
   -- code 7 compares the steps' bytes with those of the plans
   distance : stepsDistance slice ≡ length (sectionsOf slice .steps) + trailerBytes

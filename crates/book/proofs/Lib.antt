@@ -3,4 +3,8 @@ pub mod Words
 pub mod BadRow
 pub mod BadRecord
 pub mod BadStep
+pub mod OwnSections
 pub mod Frames
+pub mod Opening
+pub mod Pasting
+pub mod Writing

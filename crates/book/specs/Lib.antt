@@ -3,3 +3,4 @@ pub mod Records
 pub mod Steps
 pub mod Frame
 pub mod Table
+pub mod Written

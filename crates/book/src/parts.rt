@@ -8,7 +8,7 @@ ghost use Rattle.trade.specs.Answers.{firstOf, noNumber};
 ghost use Rattle.trade.specs.Codes.{outside};
 ghost use mathlib.Core.Bool.{_||_};
 ghost use Rattle.book.specs.Frame.{trailerIn, astray, trailerAnswer, frameBy, noFrame, Lies, sectionRules, openedOf};
-use crate::bytes::word_at;
+use crate::numbers::word_at;
 use crate::records::records_answer;
 use crate::records::steps_before;
 use crate::rows::rows_answer;

@@ -10,7 +10,7 @@ ghost use Rattle.trade.specs.Layout.{field};
 ghost use Rattle.trade.specs.Facts.{factsIn, flowIn};
 ghost use Rattle.book.specs.Records.{misfit};
 ghost use Rattle.trade.specs.Codes.{outside, badRecord, code6};
-use crate::bytes::word_at;
+use crate::numbers::word_at;
 use trade::Answer;
 use trade::Flow;
 use trade::Plan;

@@ -1,4 +1,4 @@
--- Runs that agree on the slot and on the steps done by each flow of the book: one slot does the same to both. Leans on Slot and Order.
+-- Runs that agree on the slot and on the steps done by each flow of the book: one slot does the same to both. Leans on Slot.
 -- Assumes nothing.
 use Prim.Native.Nat.{ℕ, zero, suc, _<_}
 use mathlib.Core.Path.{_≡_, refl, _∙_, ap, ap₂}

@@ -161,3 +161,20 @@ firstOf-last rule x plain =
     (λ (e : eqb (rule x .code) 0 ≡ true). firstOf-rule rule [] noNumber x ∙ rw e (sym (plain (eqb-true (rule x .code) 0 e))))
     (λ (e : eqb (rule x .code) 0 ≡ false). firstOf-rule rule [] noNumber x ∙ rw e)
     (bool-cases (eqb (rule x .code) 0))
+
+-- rules on a part of what is handed, and then more: theirs is the answer if they refuse, and else it is left to those after them
+pub firstOf-on :
+    {A B : Type 0} (look : B → A) (rules : List (A → Answer)) (more : List (B → Answer)) (number : B → ℕ) (x : B)
+    → firstOf (on look rules ++ more) number x
+    ≡ cond (isDone (firstOf rules noNumber (look x))) (firstOf more number x) (firstOf rules noNumber (look x))
+unfolding on isDone firstOf
+firstOf-on look [] more number x = refl
+firstOf-on look (rule ∷ rules) more number x =
+    ⊎-elim
+    (λ (e : isDone (rule (look x)) ≡ true).
+    firstOf-rule (λ y. rule (look y)) (on look rules ++ more) number x
+    ∙ rw (e, firstOf-on look rules more number x, firstOf-rule rule rules noNumber (look x), e))
+    (λ (e : isDone (rule (look x)) ≡ false).
+    firstOf-rule (λ y. rule (look y)) (on look rules ++ more) number x
+    ∙ rw (e, firstOf-rule rule rules noNumber (look x), e, e))
+    (bool-cases (isDone (rule (look x))))

@@ -21,17 +21,17 @@ use Rattle.trade.proofs.Bytes.{byte-behind, long-fourBytes, length-four
 use Rattle.trade.proofs.Agree.{Agree}
 
 -- the byte of a place: the steps done, or 0 where it is unused
-abbrev pub placeOf : ℕ → State → ℕ → ℕ
-placeOf flows s i = cond (ltb i flows) (s .done i) 0
+abbrev pub placeByte : ℕ → State → ℕ → ℕ
+placeByte flows s i = cond (ltb i flows) (s .done i) 0
 
 pub length-area : (flows : ℕ) (s : State) → length (areaOf flows s) ≡ areaBytes
 unfolding areaOf
 length-area flows s =
     omega (
       arith,
-      length-append (fourBytes (s .slot)) (listTo (placeOf flows s) mostFlows),
+      length-append (fourBytes (s .slot)) (listTo (placeByte flows s) mostFlows),
       length-fourBytes (s .slot),
-      length-listTo (placeOf flows s) mostFlows,
+      length-listTo (placeByte flows s) mostFlows,
     )
 
 module _ (flows : ℕ) (s : State) (lent : List ℕ) where
@@ -41,14 +41,14 @@ module _ (flows : ℕ) (s : State) (lent : List ℕ) where
   area-slot h = rw append-assoc (long-fourBytes (s .slot) _ h)
 
   -- and so is each place
-  pub area-place : (i : ℕ) → i < mostFlows → stateIn (over (areaOf flows s) lent) .done i ≡ placeOf flows s i
+  pub area-place : (i : ℕ) → i < mostFlows → stateIn (over (areaOf flows s) lent) .done i ≡ placeByte flows s i
   unfolding stateIn areaOf over
   area-place i h =
-      let places : List ℕ = listTo (placeOf flows s) mostFlows in
+      let places : List ℕ = listTo (placeByte flows s) mostFlows in
       rw append-assoc
       (byte-behind (fourBytes (s .slot)) (places ++ drop (length (areaOf flows s)) lent) slotBytes i (length-fourBytes (s .slot))
-      ∙ List·getD-append places _ 0 i (omega (arith, length-listTo (placeOf flows s) mostFlows))
-      ∙ getD-listTo (placeOf flows s) mostFlows i h)
+      ∙ List·getD-append places _ 0 i (omega (arith, length-listTo (placeByte flows s) mostFlows))
+      ∙ getD-listTo (placeByte flows s) mostFlows i h)
 
   pub area-used : (i : ℕ) → i < mostFlows → i < flows → stateIn (over (areaOf flows s) lent) .done i ≡ s .done i
   area-used i h l = area-place i h ∙ rw (lt-ltb i flows l)
@@ -72,9 +72,9 @@ area-agrees f s lent m h =
 pub agree-area : (f : Facts) (s u : State) → Agree f s u → areaOf (f .flows) s ≡ areaOf (f .flows) u
 unfolding areaOf
 agree-area f s u a =
-    ap₂ (λ (v : ℕ) (places : List ℕ). fourBytes v ++ places) (a .slot) (listTo-same (placeOf (f .flows) s) (placeOf (f .flows) u) mostFlows same)
+    ap₂ (λ (v : ℕ) (places : List ℕ). fourBytes v ++ places) (a .slot) (listTo-same (placeByte (f .flows) s) (placeByte (f .flows) u) mostFlows same)
   where
-    same : (i : ℕ) → i < mostFlows → placeOf (f .flows) s i ≡ placeOf (f .flows) u i
+    same : (i : ℕ) → i < mostFlows → placeByte (f .flows) s i ≡ placeByte (f .flows) u i
     same i h =
         ⊎-elim (λ (e : ltb i (f .flows) ≡ true). rw e (a .done i (ltb-true i (f .flows) e))) (λ (e : ltb i (f .flows) ≡ false). rw e)
         (bool-cases (ltb i (f .flows)))

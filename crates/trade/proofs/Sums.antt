@@ -1,10 +1,10 @@
 -- Sums, largest values and lists over indices. Leans on First. Assumes nothing.
-use Prim.Native.Nat.{ℕ, zero, suc, _+_, _≤_, _<_, max}
+use Prim.Native.Nat.{ℕ, zero, suc, _+_, _*_, _≤_, _<_, max}
 use mathlib.Core.Path.{_≡_, refl, sym, _∙_, ap, ap₂, subst}
 use mathlib.Core.Logic.{_⊎_, inl, inr, ⊎-elim}
 use mathlib.Core.List.{List, [], _∷_}
 use native.Mathlib.Omega.{arith}
-use native.Mathlib.Nat.{zero-add, add-le-add, le-trans, le-max-left, le-max-right, max-le, max-eq-left, max-eq-right}
+use native.Mathlib.Nat.{zero-add, mul-suc, add-le-add, le-trans, le-max-left, le-max-right, max-le, max-eq-left, max-eq-right}
 use lib.ListN.{length, getD}
 use lib.Seq.{ext-getD}
 use Rattle.trade.specs.First.{sumTo, largestFrom, listFrom, listTo}
@@ -25,6 +25,12 @@ sum-mono f g (suc n) e = add-le-add (sum-mono f g n (λ i h. e i (omega arith)))
 pub sum-next : (f : ℕ → ℕ) (n : ℕ) → sumTo f (suc n) ≡ sumTo f n + f n
 unfolding sumTo
 sum-next f n = refl
+
+-- figures of at most b each
+pub sum-most : (f : ℕ → ℕ) (b n : ℕ) → ((i : ℕ) → i < n → f i ≤ b) → sumTo f n ≤ b * n
+unfolding sumTo
+sum-most f b zero h = omega arith
+sum-most f b (suc n) h = rw (mul-suc b n) (add-le-add (sum-most f b n (λ i l. h i (omega arith))) (h n (omega arith)))
 
 -- a sum over fewer indices is no larger
 pub sum-le : (f : ℕ → ℕ) (m n : ℕ) → m ≤ n → sumTo f m ≤ sumTo f n

@@ -5,7 +5,7 @@ use Rattle.book.proofs.parts.trailer_of.Statement.{statement}
 use Rattle.book.proofs.parts.trailer_of.Tie as tie
 use Rattle.book.proofs.parts.trailer_of.Reads as reads
 use Rattle.book.proofs.parts.trailer_of.Lts as lts
-use Rattle.book.proofs.bytes.word_at.Reads as word-at-reads
+use Rattle.book.proofs.numbers.word_at.Reads as word-at-reads
 
 -- src/parts.rt:53:15
 word-at-requires : tie.Need-word-at-requires

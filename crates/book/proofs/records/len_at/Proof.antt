@@ -6,7 +6,7 @@ use Rattle.book.proofs.records.len_at.Statement.{statement}
 use Rattle.book.proofs.records.len_at.Tie as tie
 use Rattle.book.proofs.records.len_at.Reads as reads
 use Rattle.book.proofs.records.len_at.Lts as lts
-use Rattle.book.proofs.bytes.word_at.Reads as word-at-reads
+use Rattle.book.proofs.numbers.word_at.Reads as word-at-reads
 
 -- src/records.rt:114:22
 mul-word-at : tie.Need-mul-word-at

@@ -1,11 +1,11 @@
--- `book::bytes::word_at` meets its contract: a byte is below 256, so two fit in 16 bits. Assumes nothing.
+-- `book::numbers::word_at` meets its contract: a byte is below 256, so two fit in 16 bits. Assumes nothing.
 use borrow.Author.Needs.{needs}
 use native.Mathlib.Omega.{arith}
 use Prim.Native.Nat.{_+_}
 use mathlib.Core.Path.{refl}
 use Rattle.trade.specs.Bytes.{word}
-use Rattle.book.proofs.bytes.word_at.Statement.{statement}
-use Rattle.book.proofs.bytes.word_at.Tie as tie
+use Rattle.book.proofs.numbers.word_at.Statement.{statement}
+use Rattle.book.proofs.numbers.word_at.Tie as tie
 
 shared-slice-read-result : tie.Need-shared-slice-read-result
 shared-slice-read-result c = search needs

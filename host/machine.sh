@@ -1,0 +1,41 @@
+# Sourced by the scripts beside it. Sets what builds and runs x86-64 programs on this machine:
+#   rustc, rust_target   the compiler and its options
+#   cc                   the C compiler
+#   emulator             what stands in front of a program, empty if nothing has to
+# On an Arm machine the Debian packages that this takes are installed when they are missing.
+
+rust_target=
+emulator=
+
+wants() {
+    command -v "$1" >/dev/null || { echo "host: $1 is missing: $2" >&2; exit 1; }
+}
+
+case $(uname -m) in
+x86_64)
+    rustc=${RUSTC:-rustc}
+    cc=${CC:-cc}
+    wants "$rustc" "install Rust"
+    wants "$cc" "install a C compiler"
+    ;;
+aarch64)
+    rustc=${RUSTC:-/usr/bin/rustc}
+    rust_target="--target x86_64-unknown-linux-gnu -C linker=x86_64-linux-gnu-gcc"
+    cc=x86_64-linux-gnu-gcc
+    emulator=qemu-x86_64
+    packages="rustc-web libstd-rust-web-dev:amd64 gcc-x86-64-linux-gnu qemu-user"
+    if ! dpkg-query -W $packages >/dev/null 2>&1; then
+        echo "host: installing for x86-64 on aarch64: $packages" >&2
+        dpkg --add-architecture amd64
+        apt-get -qq update
+        DEBIAN_FRONTEND=noninteractive apt-get -qq -y --no-install-recommends install $packages >/dev/null
+    fi
+    wants "$rustc" "rustc-web did not bring it"
+    wants "$cc" "gcc-x86-64-linux-gnu did not bring it"
+    wants "$emulator" "qemu-user did not bring it"
+    ;;
+*)
+    echo "host: no way to build and run x86-64 programs on $(uname -m)" >&2
+    exit 1
+    ;;
+esac

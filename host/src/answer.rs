@@ -1,0 +1,35 @@
+//! What a call answers: code × 65,536 plus the number that goes with the code.
+
+pub const DONE: u32 = 0;
+pub const SHORT_SLICE: u32 = 1;
+pub const NO_MARK: u32 = 2;
+pub const BAD_COUNT: u32 = 3;
+pub const BAD_DISTANCE: u32 = 4;
+pub const BAD_ROW: u32 = 5;
+pub const BAD_RECORD: u32 = 6;
+pub const BAD_LENGTHS: u32 = 7;
+pub const BAD_STEP: u32 = 8;
+pub const NO_BOUND: u32 = 9;
+pub const BAD_AREA: u32 = 10;
+pub const UNFINISHED: u32 = 11;
+pub const END_REACHED: u32 = 12;
+pub const SHORT_MEMORY: u32 = 13;
+pub const TABLE_FULL: u32 = 14;
+pub const BAD_PLACE: u32 = 15;
+
+/// One more than the highest code.
+pub const CODES: usize = 16;
+
+const CODE_UNIT: u32 = 65_536;
+
+pub const fn packed(code: u32, number: usize) -> u32 {
+    code * CODE_UNIT + number as u32
+}
+
+pub const fn code_of(answer: u32) -> u32 {
+    answer / CODE_UNIT
+}
+
+pub const fn number_of(answer: u32) -> usize {
+    (answer % CODE_UNIT) as usize
+}

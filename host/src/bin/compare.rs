@@ -1,0 +1,191 @@
+//! Asks two planners the same questions and compares everything they leave behind.
+//!
+//!     compare [--calls N] [--seed S] [--between A B]
+//!     compare again KIND BOOK AREA GRANTS [--between A B]     one call, from the words of a mismatch
+
+use slot_host::aimed::{self, Aimed};
+use slot_host::answer::{code_of, packed, CODES, DONE, NO_BOUND};
+use slot_host::areas;
+use slot_host::call::{from_hex, Call, Kind, Outcome};
+use slot_host::damage;
+use slot_host::dice::Dice;
+use slot_host::draft::Draft;
+use slot_host::generate::{accepted, any, regular, Shape, CROWDED, FULL, MIDDLE, SMALL, WIDE};
+use slot_host::limits::*;
+use slot_host::options::Options;
+use slot_host::planner::{self, Planner};
+use std::process::ExitCode;
+
+const CALLS: u64 = 400_000;
+
+fn main() -> ExitCode {
+    let mut options = Options::from_args();
+    let pair = options.pair("--between").unwrap_or((planner::under_test().name().into(), "plain".into()));
+    let (Some(a), Some(b)) = (planner::named(&pair.0), planner::named(&pair.1)) else {
+        println!("no such planner in this build: {} or {}", pair.0, pair.1);
+        return ExitCode::FAILURE;
+    };
+    let mut desk = Desk { a, b, counts: [[0; CODES]; 3] };
+    let outcome = if options.word("again") {
+        again(&mut desk, options.rest())
+    } else {
+        let (calls, seed) = (options.number("--calls", CALLS), options.number("--seed", 1));
+        options.finish();
+        println!("{} against {}, seed {seed}", a.name(), b.name());
+        compare(&mut desk, calls, seed)
+    };
+    match outcome {
+        Ok(()) => ExitCode::SUCCESS,
+        Err(what) => {
+            println!("{what}");
+            ExitCode::FAILURE
+        }
+    }
+}
+
+/// Where the two planners meet, with a count for every call and code.
+struct Desk {
+    a: &'static dyn Planner,
+    b: &'static dyn Planner,
+    counts: [[u64; CODES]; 3],
+}
+
+impl Desk {
+    fn calls(&self) -> u64 {
+        self.counts.iter().flatten().sum()
+    }
+
+    fn ask(&mut self, call: Call) -> Result<Outcome, String> {
+        let (ours, theirs) = (call.make(self.a), call.make(self.b));
+        if ours != theirs || !ours.kept_out {
+            let (a, b) = (self.a.name(), self.b.name());
+            return Err(format!("MISMATCH\n  {a}: {ours}\n  {b}: {theirs}\n  to repeat: compare again {call}"));
+        }
+        self.counts[call.kind as usize][code_of(ours.answer) as usize] += 1;
+        Ok(ours)
+    }
+
+    /// All three calls on one slice, whatever it is.
+    fn ask_all(&mut self, dice: &mut Dice, book: &[u8], draft: &Draft) -> Result<[u32; 3], String> {
+        let checked = self.ask(Call::check(book))?;
+        let started = self.ask(Call::start(book, &areas::memory(dice)))?;
+        let (area, grants) = (areas::area(dice, draft), areas::grants(dice, draft.flows.len()));
+        let advanced = self.ask(Call::advance(book, &area, &grants))?;
+        Ok([checked.answer, started.answer, advanced.answer])
+    }
+}
+
+fn compare(desk: &mut Desk, calls: u64, seed: u64) -> Result<(), String> {
+    let dice = &mut Dice::new(seed);
+    let mut round = 0;
+    while desk.calls() < calls {
+        // Small books come first, so that a difference shows on a small one if it can.
+        let shape = match round % 64 {
+            63 => &FULL,
+            15 | 47 => &WIDE,
+            31 => &CROWDED,
+            r if r % 4 == 3 => &MIDDLE,
+            _ => &SMALL,
+        };
+        let draft = match dice.below(6) {
+            0 | 1 => any(dice, shape),
+            2 if round % 64 == 63 => regular(dice.roll(), MAX_NODES, MAX_FLOWS, MAX_LEN),
+            _ => accepted(dice, shape),
+        };
+        one_book(desk, dice, &draft).map_err(|what| format!("round {round}: {what}"))?;
+        if round % 8 == 3 {
+            aimed_books(desk, dice, shape).map_err(|what| format!("round {round}, aimed: {what}"))?;
+        }
+        round += 1;
+    }
+    summary(desk, round)
+}
+
+/// A valid book: the three calls, many slots out of any area, a run from start and one from anywhere, and damaged
+/// copies.
+fn one_book(desk: &mut Desk, dice: &mut Dice, draft: &Draft) -> Result<(), String> {
+    let book = draft.bytes();
+    desk.ask_all(dice, &book, draft)?;
+    for _ in 0..24 {
+        let (area, grants) = (areas::area(dice, draft), areas::grants(dice, draft.flows.len()));
+        desk.ask(Call::advance(&book, &area, &grants))?;
+    }
+    let started = desk.ask(Call::start(&book, &areas::memory(dice)))?;
+    if started.answer == packed(DONE, 0) {
+        run(desk, dice, draft, &book, started.area)?;
+    }
+    let anywhere = areas::area(dice, draft);
+    run(desk, dice, draft, &book, anywhere)?;
+    for _ in 0..4 {
+        let damaged = damage::at_random(dice, &book);
+        desk.ask_all(dice, &damaged, draft)?;
+    }
+    let noise = damage::noise(dice);
+    desk.ask_all(dice, &noise, draft)?;
+    Ok(())
+}
+
+/// Slots in a row, as long as none is refused.
+fn run(desk: &mut Desk, dice: &mut Dice, draft: &Draft, book: &[u8], mut area: Vec<u8>) -> Result<(), String> {
+    let slots = dice.pick(&[20, 60, 60, 300]);
+    let mut grants = dice.bytes(GRANT_BYTES * draft.flows.len() + 3);
+    for _ in 0..slots {
+        let advanced = desk.ask(Call::advance(book, &area, &grants))?;
+        if code_of(advanced.answer) != DONE {
+            break;
+        }
+        (area, grants) = (advanced.area, advanced.grants);
+    }
+    Ok(())
+}
+
+/// Books that must get one certain answer.
+fn aimed_books(desk: &mut Desk, dice: &mut Dice, shape: &Shape) -> Result<(), String> {
+    let draft = accepted(dice, shape);
+    for Aimed { book, answer } in aimed::around(dice, &draft) {
+        let [checked, started, advanced] = desk.ask_all(dice, &book, &draft)?;
+        let passes = answer == packed(DONE, 0);
+        let wrong = checked != answer
+            || (!passes && started != answer)
+            || (!passes && code_of(answer) != NO_BOUND && advanced != answer);
+        if wrong {
+            let (code, call) = (code_of(answer), Call::check(&book));
+            return Err(format!("WRONG ANSWER, both, where code {code} was aimed at\n  compare again {call}"));
+        }
+    }
+    Ok(())
+}
+
+/// Prints the counts; every code of every call must have been met.
+fn summary(desk: &Desk, rounds: u64) -> Result<(), String> {
+    println!("{} calls on {rounds} books and damaged copies of them: no difference", desk.calls());
+    let mut missing = Vec::new();
+    for kind in Kind::ALL {
+        let counts = &desk.counts[kind as usize];
+        let met = kind.codes().iter().map(|&code| format!("{code}: {}", counts[code as usize]));
+        println!(
+            "  {:7} {} calls; by code {}",
+            kind.name(),
+            counts.iter().sum::<u64>(),
+            met.collect::<Vec<_>>().join(", ")
+        );
+        let unmet = kind.codes().iter().filter(|&&code| counts[code as usize] == 0);
+        missing.extend(unmet.map(|code| format!("{} {code}", kind.name())));
+    }
+    if missing.is_empty() {
+        Ok(())
+    } else {
+        Err(format!("codes that were never met: {}", missing.join(", ")))
+    }
+}
+
+fn again(desk: &mut Desk, words: &[String]) -> Result<(), String> {
+    let usage = || "compare again KIND BOOK AREA GRANTS, in hex, - for nothing".to_string();
+    let [kind, book, area, grants] = words else { return Err(usage()) };
+    let kind = Kind::ALL.into_iter().find(|known| known.name() == kind).ok_or_else(usage)?;
+    let bytes = |text: &String| from_hex(text).ok_or_else(usage);
+    let (book, area, grants) = (bytes(book)?, bytes(area)?, bytes(grants)?);
+    let outcome = desk.ask(Call { kind, book: &book, area: &area, grants: &grants })?;
+    println!("{} and {}: {outcome}", desk.a.name(), desk.b.name());
+    Ok(())
+}

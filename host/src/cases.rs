@@ -1,0 +1,182 @@
+//! The cases of document 01 that any planner can be asked through the three calls.
+
+use crate::answer::*;
+use crate::draft::{book_a, book_b, Draft, DraftFlow};
+use crate::generate::regular;
+use crate::limits::*;
+use crate::planner::Planner;
+
+pub type Case = (&'static str, fn(&dyn Planner) -> Result<(), String>);
+
+pub const CASES: &[Case] = &[
+    ("1, trailer of A", trailer_of_a),
+    ("3, bounds of A", bounds_of_a),
+    ("4, deadline of flow 9", deadline_of_9),
+    ("5, slots 2 and 3 of A", slots_of_a),
+    ("6, bounds of B", bounds_of_b),
+    ("7, deadline of flow 3", deadline_of_3),
+    ("8, run of B", run_of_b),
+    ("10, conflict of 0-1 and 2-3", conflict),
+    ("11, one node and no flows", one_node),
+    ("12, largest counts and period", largest),
+    ("13, last slot", last_slot),
+    ("listing of A", listing_of_a),
+];
+
+/// Slot, flow id, instance, step, sender, receiver.
+type Line = (u32, u16, u32, u8, u8, u8);
+
+pub fn same<T: PartialEq + std::fmt::Debug>(what: &str, found: T, wanted: T) -> Result<(), String> {
+    if found == wanted {
+        Ok(())
+    } else {
+        Err(format!("{what}: {found:?}, where {wanted:?} is right"))
+    }
+}
+
+fn accepted() -> u32 {
+    packed(DONE, 0)
+}
+
+/// Starts the book and runs it; the grants, in order.
+fn run(planner: &dyn Planner, draft: &Draft, slots: u32) -> Result<Vec<Line>, String> {
+    let book = draft.bytes();
+    let mut area = [0; AREA_BYTES];
+    let mut grants = vec![0; GRANT_BYTES * draft.flows.len()];
+    same("start", planner.start(&book, &mut area), accepted())?;
+    let mut lines = Vec::new();
+    for slot in 0..slots {
+        let answer = planner.advance(&book, &mut area, &mut grants);
+        same("code of advance", code_of(answer), DONE)?;
+        for grant in grants.chunks(GRANT_BYTES).take(number_of(answer)) {
+            let instance = u32::from_be_bytes([grant[2], grant[3], grant[4], grant[5]]);
+            lines.push((slot, u16::from_be_bytes([grant[0], grant[1]]), instance, grant[6], grant[7], grant[8]));
+        }
+    }
+    Ok(lines)
+}
+
+fn slots_of(lines: &[Line], id: u16) -> Vec<u32> {
+    lines.iter().filter(|line| line.1 == id).map(|line| line.0).collect()
+}
+
+/// A flow's bound seen from outside: its deadline may be cut to the bound and no further.
+fn has_bound(planner: &dyn Planner, draft: &Draft, place: usize, bound: u16) -> Result<(), String> {
+    for (deadline, answer) in [(bound, accepted()), (bound - 1, packed(NO_BOUND, place))] {
+        let mut cut = draft.clone();
+        cut.flows[place].deadline = deadline;
+        same(&format!("check with deadline {deadline} at place {place}"), planner.check(&cut.bytes()), answer)?;
+    }
+    Ok(())
+}
+
+fn trailer_of_a(planner: &dyn Planner) -> Result<(), String> {
+    let book = book_a().bytes();
+    same("length", book.len(), 90)?;
+    same("trailer", &book[80..], &[0x00, 0x5A, 0x00, 0x2A, 0x00, 0x16, 0x06, 0x02, 0x46, 0x42])?;
+    same("check", planner.check(&book), accepted())
+}
+
+fn bounds_of_a(planner: &dyn Planner) -> Result<(), String> {
+    has_bound(planner, &book_a(), 0, 3)?;
+    has_bound(planner, &book_a(), 1, 7)?;
+    let mut cut = book_a();
+    cut.flows[0].deadline = 6;
+    has_bound(planner, &cut, 1, 5)
+}
+
+fn deadline_of_9(planner: &dyn Planner) -> Result<(), String> {
+    let mut book = book_a();
+    book.flows[1].deadline = 7;
+    same("check with 7", planner.check(&book.bytes()), accepted())?;
+    book.flows[1].deadline = 6;
+    same("check with 6", planner.check(&book.bytes()), packed(NO_BOUND, 1))
+}
+
+fn slots_of_a(planner: &dyn Planner) -> Result<(), String> {
+    let lines = run(planner, &book_a(), 4)?;
+    let in_slot = |slot: u32| lines.iter().filter(|line| line.0 == slot).copied().collect::<Vec<_>>();
+    same("slot 2", in_slot(2), vec![(2, 7, 0, 2, 2, 3)])?;
+    same("slot 3", in_slot(3), vec![(3, 9, 0, 2, 3, 2)])
+}
+
+fn bounds_of_b(planner: &dyn Planner) -> Result<(), String> {
+    [5, 6, 7].into_iter().enumerate().try_for_each(|(place, bound)| has_bound(planner, &book_b(), place, bound))
+}
+
+fn deadline_of_3(planner: &dyn Planner) -> Result<(), String> {
+    let mut book = book_b();
+    book.flows[2].deadline = 6;
+    same("check with 6", planner.check(&book.bytes()), packed(NO_BOUND, 2))
+}
+
+fn run_of_b(planner: &dyn Planner) -> Result<(), String> {
+    let lines = run(planner, &book_b(), 12)?;
+    same("flow 2", slots_of(&lines, 2), vec![5, 10])?;
+    same("flow 3", slots_of(&lines, 3), vec![6, 7, 8, 9, 11])
+}
+
+/// 0-1 and 2-3 go in one slot unless 2 disturbs 1 or 0 disturbs 3; what a receiver disturbs does not count.
+fn conflict(planner: &dyn Planner) -> Result<(), String> {
+    let flow = |id, sender| DraftFlow { id, phase: 0, period: 9, deadline: 9, plan: vec![(sender, sender + 1)] };
+    for (who, whom, second) in [(9, 0, 0), (2, 1, 1), (0, 3, 1), (1, 2, 0), (3, 0, 0)] {
+        let mut draft = Draft { rows: vec![0; 4], flows: vec![flow(1, 0), flow(2, 2)] };
+        if who < 4 {
+            draft.rows[who] |= 1 << whom;
+        }
+        let lines = run(planner, &draft, 2)?;
+        same(&format!("2-3 when {who} disturbs {whom}"), slots_of(&lines, 2), vec![second])?;
+    }
+    Ok(())
+}
+
+fn one_node(planner: &dyn Planner) -> Result<(), String> {
+    let draft = Draft { rows: vec![0], flows: Vec::new() };
+    same("length", draft.bytes().len(), 18)?;
+    same("check", planner.check(&draft.bytes()), accepted())?;
+    same("grants", run(planner, &draft, 1_000)?, Vec::new())
+}
+
+fn largest(planner: &dyn Planner) -> Result<(), String> {
+    let full = regular(12, MAX_NODES, MAX_FLOWS, MAX_LEN).bytes();
+    same("64 nodes and 32 flows", planner.check(&full), accepted())?;
+    for (back, count) in [(4, 65), (3, 33)] {
+        let mut book = full.clone();
+        let at = book.len() - back;
+        book[at] = count;
+        same(&format!("a count of {count}"), planner.check(&book), packed(BAD_COUNT, 0))?;
+    }
+    for (period, answer) in [(60_000, accepted()), (60_001, packed(BAD_RECORD, 1))] {
+        let mut book = book_a();
+        book.flows[1].period = period;
+        same(&format!("period {period}"), planner.check(&book.bytes()), answer)?;
+    }
+    Ok(())
+}
+
+fn last_slot(planner: &dyn Planner) -> Result<(), String> {
+    let book = book_a().bytes();
+    let mut area = [0; AREA_BYTES];
+    same("start", planner.start(&book, &mut area), accepted())?;
+    area[..SLOT_BYTES].copy_from_slice(&3_999_999_999u32.to_be_bytes());
+    let mut grants = [0; 2 * GRANT_BYTES];
+    same("code of slot 3,999,999,999", code_of(planner.advance(&book, &mut area, &mut grants)), DONE)?;
+    same("slot after it", &area[..SLOT_BYTES], &4_000_000_000u32.to_be_bytes())?;
+    let before = (area, grants);
+    same("the next", planner.advance(&book, &mut area, &mut grants), packed(END_REACHED, 0))?;
+    same("memory after it", (area, grants), before)
+}
+
+fn listing_of_a(planner: &dyn Planner) -> Result<(), String> {
+    let wanted = vec![
+        (0, 7, 0, 0, 0, 1),
+        (0, 9, 0, 0, 5, 4),
+        (1, 7, 0, 1, 1, 2),
+        (1, 9, 0, 1, 4, 3),
+        (2, 7, 0, 2, 2, 3),
+        (3, 9, 0, 2, 3, 2),
+        (10, 7, 1, 0, 0, 1),
+        (11, 7, 1, 1, 1, 2),
+    ];
+    same("grants", run(planner, &book_a(), 12)?, wanted)
+}

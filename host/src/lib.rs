@@ -1,0 +1,24 @@
+//! The Rust side of the slot planner: an independent scheduler written from document 01 (`plain`), an optimised
+//! one as a yardstick (`keen`), the proved library behind its C interface (`proved`, when an archive is linked),
+//! and what the programs under `bin/` need to compare, watch and time them.
+#![deny(unsafe_code)]
+#![allow(unexpected_cfgs)]
+
+pub mod aimed;
+pub mod answer;
+pub mod areas;
+pub mod call;
+pub mod cases;
+pub mod damage;
+pub mod dice;
+pub mod draft;
+pub mod generate;
+pub mod keen;
+pub mod limits;
+pub mod options;
+pub mod plain;
+pub mod plain_cases;
+pub mod planner;
+#[cfg(proved)]
+mod proved;
+pub mod watch;

@@ -1,0 +1,200 @@
+//! Cases that look inside `plain`: its rules on bare facts, and its four calls on a table.
+
+use crate::answer::*;
+use crate::cases::same;
+use crate::dice::Dice;
+use crate::draft::{book_a, book_b, Draft};
+use crate::generate::{accepted, any, regular, MIDDLE, SMALL};
+use crate::limits::*;
+use crate::plain::book::Record;
+use crate::plain::rules::{by_choices, by_recursion, Matrix};
+use crate::plain::table::{add, read, remove, write, Table, PLAN_BYTES};
+use crate::plain::{run, Refusal};
+
+pub type PlainCase = (&'static str, fn() -> Result<(), String>);
+
+pub const PLAIN_CASES: &[PlainCase] = &[
+    ("2, I(9,7) and its conflicts", interference_of_a),
+    ("3 and 6, bounds as figures", bounds_of_both),
+    ("9, bare matrix of document 002", bare_matrix),
+    ("the two ways to the interference agree", both_ways),
+    ("a written book reads back", round_trip),
+    ("codes of writing", codes_of_writing),
+    ("codes of adding, in their order", codes_of_adding),
+    ("adding retests the flows below", adding_retests),
+    ("codes of removing", codes_of_removing),
+    ("removing what was added", add_then_remove),
+];
+
+fn interference_of_a() -> Result<(), String> {
+    let facts = book_a().facts();
+    let pairs: Vec<_> =
+        facts.flows[1].plan.iter().flat_map(|&l| facts.flows[0].plan.iter().map(move |&h| (l, h))).collect();
+    let conflicting: Vec<_> = pairs.into_iter().filter(|&(l, h)| facts.conflict(l, h)).collect();
+    same("conflicts", conflicting, vec![((4, 3), (2, 3)), ((3, 2), (1, 2)), ((3, 2), (2, 3))])?;
+    same("I(9,7)", facts.interference(1, 0), 2)
+}
+
+fn bounds_of_both() -> Result<(), String> {
+    let padded = |bounds: &[u16]| {
+        let mut all = [0; MAX_FLOWS];
+        all[..bounds.len()].copy_from_slice(bounds);
+        Ok(all)
+    };
+    same("A", run::check(&book_a().bytes()), padded(&[3, 7]))?;
+    same("B", run::check(&book_b().bytes()), padded(&[5, 6, 7]))?;
+    let mut cut = book_b();
+    cut.flows[2].deadline = 6;
+    same("B cut", run::check(&cut.bytes()), Err(Refusal { code: NO_BOUND, number: 2 }))
+}
+
+fn bare_matrix() -> Result<(), String> {
+    let marks: [&[usize]; 4] = [&[4, 5], &[1, 2, 3, 4, 5], &[1, 2, 3, 4], &[0]];
+    let matrix: Matrix = marks.iter().map(|row| (0..6).map(|column| row.contains(&column)).collect()).collect();
+    same("by choices", by_choices(&matrix), 5)?;
+    same("by recursion", by_recursion(&matrix), 5)
+}
+
+fn both_ways() -> Result<(), String> {
+    let dice = &mut Dice::new(9);
+    for _ in 0..2_000 {
+        let (rows, columns, rarity) = (dice.between(1, 6), dice.between(1, 6), dice.between(1, 4));
+        let matrix: Matrix = (0..rows).map(|_| (0..columns).map(|_| dice.once_in(rarity)).collect()).collect();
+        same(&format!("{matrix:?}"), by_recursion(&matrix), by_choices(&matrix))?;
+    }
+    Ok(())
+}
+
+/// The table of a valid book, with something in every unused place.
+fn littered(dice: &mut Dice, draft: &Draft) -> Table {
+    let (_, mut table) = read(&draft.bytes());
+    let litter = |dice: &mut Dice, unused: &mut [u8]| unused.iter_mut().for_each(|byte| *byte = dice.byte());
+    litter(dice, &mut table.rows[ROW_BYTES * draft.nodes()..]);
+    litter(dice, &mut table.records[RECORD_BYTES * draft.flows.len()..]);
+    litter(dice, &mut table.steps[STEP_BYTES * draft.steps()..]);
+    table
+}
+
+fn round_trip() -> Result<(), String> {
+    let dice = &mut Dice::new(10);
+    for round in 0..300 {
+        let draft = any(dice, if round % 4 == 0 { &MIDDLE } else { &SMALL });
+        let book = draft.bytes();
+        let (answer, table) = read(&book);
+        same("read", answer, packed(DONE, 0))?;
+        let mut buffer = vec![0xEE; book.len() + 7];
+        let written = write(&littered(dice, &draft), &mut buffer);
+        same("write", written, packed(DONE, book.len()))?;
+        same("book", &buffer[..book.len()], &book[..])?;
+        same("bytes behind it", &buffer[book.len()..], &[0xEE; 7])?;
+        same("read again", read(&buffer[..book.len()]), (packed(DONE, 0), table))?;
+    }
+    let refused = read(&book_a().bytes()[1..]);
+    same("a refused book", refused, (packed(BAD_DISTANCE, 0), Table::zeros()))
+}
+
+fn codes_of_writing() -> Result<(), String> {
+    let dice = &mut Dice::new(11);
+    let good = littered(dice, &book_a());
+    let mut buffer = [0xEE; 89];
+    same("short buffer", write(&good, &mut buffer), packed(SHORT_MEMORY, 0))?;
+    for (wanted, bad) in faulty_tables(&good) {
+        same("write", write(&bad, &mut buffer), wanted)?;
+        same("add", add(&bad, 0, newcomer(3, &[(0, 1)]).0, &[0; PLAN_BYTES]), (wanted, bad.clone()))?;
+        same("remove", remove(&bad, 0), (wanted, bad))?;
+    }
+    same("buffer", buffer, [0xEE; 89])
+}
+
+/// Book A's table with one fault each, and the answer it must get.
+fn faulty_tables(good: &Table) -> Vec<(u32, Table)> {
+    let changed = |change: fn(&mut Table)| {
+        let mut table = good.clone();
+        change(&mut table);
+        table
+    };
+    vec![
+        (packed(BAD_COUNT, 0), changed(|table| table.n = 0)),
+        (packed(BAD_COUNT, 0), changed(|table| table.n = 65)),
+        (packed(BAD_COUNT, 0), changed(|table| table.m = 33)),
+        (packed(BAD_ROW, 2), changed(|table| table.rows[2 * ROW_BYTES] |= 1 << 2)),
+        (packed(BAD_RECORD, 1), changed(|table| table.records[RECORD_BYTES + 1] = 7)),
+        (packed(BAD_STEP, 4), changed(|table| table.steps[4 * STEP_BYTES] = 1)),
+    ]
+}
+
+/// The step places of a plan, with something in those past its end.
+fn places(steps: &[(u8, u8)]) -> [u8; PLAN_BYTES] {
+    let mut plan = [0xEE; PLAN_BYTES];
+    for (place, &(sender, receiver)) in plan.chunks_mut(STEP_BYTES).zip(steps) {
+        place.copy_from_slice(&[sender, receiver]);
+    }
+    plan
+}
+
+fn newcomer(id: u16, steps: &[(u8, u8)]) -> (Record, [u8; PLAN_BYTES]) {
+    (Record { id, phase: 0, period: 900, deadline: 900, len: steps.len() as u16 }, places(steps))
+}
+
+fn codes_of_adding() -> Result<(), String> {
+    let dice = &mut Dice::new(14);
+    let full = littered(dice, &regular(14, 8, MAX_FLOWS, 2));
+    let (record, plan) = newcomer(0, &[(9, 9)]);
+    same("14 ahead of 15 and 6", add(&full, 99, record, &plan), (packed(TABLE_FULL, 0), full.clone()))?;
+
+    let table = littered(dice, &book_a());
+    let refused = |place: usize, (record, plan): (Record, [u8; PLAN_BYTES]), code: u32, number: usize| {
+        let wanted = (packed(code, number), table.clone());
+        same(&format!("adding flow {} at {place}", record.id), add(&table, place, record, &plan), wanted)
+    };
+    refused(3, newcomer(0, &[(9, 9)]), BAD_PLACE, 0)?;
+    refused(1, newcomer(0, &[(9, 9)]), BAD_RECORD, 1)?;
+    refused(2, newcomer(7, &[(0, 1)]), BAD_RECORD, 2)?;
+    refused(0, newcomer(9, &[(0, 1)]), BAD_RECORD, 2)?;
+    refused(1, newcomer(3, &[]), BAD_RECORD, 1)?;
+    let (mut long, plan) = newcomer(3, &[(0, 1); MAX_LEN]);
+    long.len = MAX_LEN as u16 + 1;
+    refused(1, (long, plan), BAD_RECORD, 1)?;
+    long.len = u16::MAX;
+    refused(1, (long, plan), BAD_RECORD, 1)?;
+    refused(1, newcomer(3, &[(0, 1), (2, 3)]), BAD_STEP, 4)?;
+    let (mut tight, plan) = newcomer(3, &[(0, 1), (0, 1)]);
+    tight.deadline = 1;
+    refused(2, (tight, plan), NO_BOUND, 2)
+}
+
+fn adding_retests() -> Result<(), String> {
+    let mut draft = book_a();
+    draft.flows[1].deadline = 7;
+    let (_, table) = read(&draft.bytes());
+    let (record, plan) = newcomer(3, &[(4, 5)]);
+    same("at the top", add(&table, 0, record, &plan), (packed(NO_BOUND, 2), table.clone()))?;
+    same("at the bottom", add(&table, 2, record, &plan).0, packed(DONE, 0))
+}
+
+fn codes_of_removing() -> Result<(), String> {
+    let table = littered(&mut Dice::new(15), &book_a());
+    same("no such place", remove(&table, 2), (packed(BAD_PLACE, 0), table.clone()))?;
+    let mut rest = book_a();
+    rest.flows.remove(0);
+    same("the first", remove(&table, 0), (packed(DONE, 0), read(&rest.bytes()).1))
+}
+
+fn add_then_remove() -> Result<(), String> {
+    let dice = &mut Dice::new(16);
+    for _ in 0..300 {
+        let draft = accepted(dice, &SMALL);
+        if draft.flows.is_empty() {
+            continue;
+        }
+        let whole = read(&draft.bytes()).1;
+        let place = dice.below(draft.flows.len());
+        let mut rest = draft.clone();
+        let flow = rest.flows.remove(place);
+        let without = read(&rest.bytes()).1;
+        same("remove", remove(&littered(dice, &draft), place), (packed(DONE, 0), without))?;
+        let back = add(&littered(dice, &rest), place, flow.record(), &places(&flow.plan));
+        same("add", back, (packed(DONE, 0), whole))?;
+    }
+    Ok(())
+}

@@ -1,0 +1,59 @@
+#!/bin/sh
+# Whether the comparison has teeth: each line below spoils one rule in a copy of keen, and compare has to see it.
+# It needs no archive and takes two minutes.   host/teeth.sh
+set -eu
+here=$(cd "$(dirname "$0")" && pwd)
+. "$here/machine.sh"
+work=$(mktemp -d)
+trap 'rm -rf "$work"' EXIT
+cp -r "$here/src" "$work/src"
+flags="--edition 2021 -O -A warnings $rust_target"
+missed=0
+
+# spoil FILE EDIT WHAT: an edit that changes nothing is a fault of this list.
+spoil() {
+    cp "$here/src/keen/$1" "$work/src/keen/$1"
+    sed -i "$2" "$work/src/keen/$1"
+    if cmp -s "$here/src/keen/$1" "$work/src/keen/$1"; then
+        echo "teeth: $3: the edit changes nothing" >&2
+        exit 1
+    fi
+    $rustc $flags --crate-type rlib --crate-name slot_host -o "$work/libslot_host.rlib" "$work/src/lib.rs"
+    $rustc $flags --extern "slot_host=$work/libslot_host.rlib" -o "$work/compare" "$work/src/bin/compare.rs"
+    if $emulator "$work/compare" --between keen plain >"$work/log" 2>&1; then
+        echo "teeth: $3: NOT SEEN"
+        missed=$((missed + 1))
+    elif grep -q MISMATCH "$work/log"; then
+        echo "teeth: $3: seen"
+    else
+        cat "$work/log" >&2
+        exit 1
+    fi
+    cp "$here/src/keen/$1" "$work/src/keen/$1"
+}
+
+spoil bound.rs 's/carry: above.deadline - 1/carry: 0/' "ceil(R / P) instances"
+spoil bound.rs 's/carry: above.deadline - 1/carry: above.deadline/' "one carried slot too many"
+spoil bound.rs 's/bound > record.deadline/bound >= record.deadline/' "a bound that equals the deadline refused"
+spoil bound.rs 's/line.last().copied().unwrap_or(0)/(higher.len() \/ STEP_BYTES) as u32/' "I as the length of the plan above"
+spoil bound.rs 's/best = best.max(\*figure + (marks \& 1))/best = best + *figure + (marks \& 1)/' "I as the number of marks"
+spoil bound.rs 's/self.plans().take(l).enumerate()/self.plans().enumerate().take(l).skip(l - 1)/' "only the flow just above in the bound"
+spoil bound.rs 's/for_each_node(row_mask(row) & receivers/for_each_node(0 \& receivers/' "the bound blind to one direction of disturbance"
+spoil slot.rs 's/(self.disturbed & bit(receiver))/(self.disturbed \& ends)/' "disturbance that reaches senders"
+spoil slot.rs 's/| (self.receivers & row)//' "a slot blind to one direction of disturbance"
+spoil slot.rs 's/self.receivers |= bit/self.receivers = bit/' "only the grant just made"
+spoil slot.rs 's/slot > END_OF_SLOTS/slot >= END_OF_SLOTS/' "4,000,000,000 as a malformed slot"
+spoil slot.rs 's/record.phase >= slot/record.phase > slot/' "an unfinished flow in the slot of its phase"
+spoil slot.rs 's/done > len ||/done > len + 1 ||/' "a byte one above L"
+spoil slot.rs 's/position(|&byte| byte != 0)/position(|\&byte| byte > 1)/' "an unused byte of 1"
+spoil slot.rs 's/late.trailing_zeros()/31 - late.leading_zeros()/' "the last flow with code 11"
+spoil slot.rs 's/if late != 0 {/if false {/' "no code 11"
+spoil mod.rs 's/GRANT_BYTES \* book.flows()/GRANT_BYTES * book.flows() - usize::from(book.flows() > 0)/' "a grant buffer one byte short"
+spoil book.rs 's/record.phase > MAX_PHASE/record.phase >= MAX_PHASE/' "phase 60,000 refused"
+spoil book.rs 's/records\[..RECORD_BYTES \* i\]/records[RECORD_BYTES * i.saturating_sub(1)..RECORD_BYTES * i]/' "equal ids seen only next to each other"
+spoil book.rs 's/(beyond | 1 << x)/(beyond << 1 | 1 << x)/' "bit n let through"
+spoil book.rs 's/sender(step) != receiver(last)/(sender(step) != receiver(last)) \& (sender(step) != sender(last))/' "a step from the same sender let through"
+spoil book.rs 's/breaks == between_plans/breaks <= between_plans + 1/' "one jump let through"
+
+echo "teeth: $missed not seen"
+[ "$missed" = 0 ]

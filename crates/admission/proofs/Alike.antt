@@ -21,6 +21,7 @@ use Rattle.trade.proofs.First.{first-cong, some-cong}
 use Rattle.trade.proofs.Sums.{sum-cong}
 use Rattle.plans.proofs.Parts.{paths-agree}
 use Rattle.admission.specs.Terms.{smallestIn}
+use Rattle.admission.specs.Bounds.{boundedBy}
 use Rattle.admission.proofs.Iteration.{smallest-same}
 use Rattle.admission.proofs.Padded.{filled-same}
 
@@ -137,3 +138,7 @@ module _ (f g : Facts) (m : f .flows ≡ g .flows) (a : Alike (f .flows) f g) wh
   pub bounds-alike : f .flows ≤ mostFlows → boundsOf f ≡ boundsOf g
   unfolding boundsOf
   bounds-alike h = filled-same mostFlows (bound f) (bound g) (f .flows) h (bound-prefix (f .flows) f g a) ∙ rw m
+
+  pub bounded-alike : f .flows ≤ mostFlows → boundedBy f ≡ boundedBy g
+  unfolding boundedBy
+  bounded-alike h = rw (code9-alike, bounds-alike h)

@@ -5,3 +5,5 @@ pub mod Padded
 pub mod Formed
 pub mod Alike
 pub mod Outcome
+pub mod Opened
+pub mod Checking

@@ -8,3 +8,4 @@ pub mod Frames
 pub mod Opening
 pub mod Pasting
 pub mod Writing
+pub mod Unique

@@ -22,7 +22,7 @@ use Rattle.trade.proofs.Sums.{sum-cong}
 use Rattle.plans.proofs.Parts.{paths-agree}
 use Rattle.admission.specs.Terms.{smallestIn}
 use Rattle.admission.specs.Bounds.{boundedBy}
-use Rattle.admission.proofs.Iteration.{smallest-same}
+use Rattle.admission.proofs.Iteration.{smallest-same, bound-is-smallest}
 use Rattle.admission.proofs.Padded.{filled-same}
 
 -- the first k flows have the same periods, deadlines and plans, and a sender of one of their steps disturbs the same receivers
@@ -107,10 +107,10 @@ module _ (k : ℕ) (f g : Facts) (a : Alike k f g) where
   -- bounds by any carry-in
   pub boundBy-alike :
       (carry other : ℕ → ℕ) (l : ℕ) → l < k → ((h : ℕ) → h < l → carry h ≡ other h) → boundBy f carry l ≡ boundBy g other l
-  unfolding boundBy admissible smallestIn
   boundBy-alike carry other l p c =
-      smallest-same (slotsNeeded f carry l) (slotsNeeded g other l) (f .len l) (f .deadline l) (needed-alike carry other l p c)
-      ∙ ap₂ (smallestIn (slotsNeeded g other l)) (a .len l p) (a .deadline l p)
+      rw (bound-is-smallest f carry l, bound-is-smallest g other l)
+      (smallest-same (slotsNeeded f carry l) (slotsNeeded g other l) (f .len l) (f .deadline l) (needed-alike carry other l p c)
+      ∙ ap₂ (smallestIn (slotsNeeded g other l)) (a .len l p) (a .deadline l p))
 
   -- THE FIRST k FLOWS DECIDE THEIR OWN BOUNDS
   pub bound-prefix : (l : ℕ) → l < k → bound f l ≡ bound g l

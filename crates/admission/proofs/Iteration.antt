@@ -75,6 +75,12 @@ needed-grows len k figures periods carries t r s h =
     (instances-mono r s (getD carries i 0) (getD carries i 0) (getD periods i 0) (getD periods i 0) (t .period i l .0) (omega arith) h (omega arith))
     (omega arith)))
 
+-- a bound is the smallest R that is at least the slots needed within it
+pub bound-is-smallest :
+    (f : Facts) (carry : ℕ → ℕ) (l : ℕ) → boundBy f carry l ≡ smallestIn (slotsNeeded f carry l) (f .len l) (f .deadline l)
+unfolding boundBy admissible smallestIn
+bound-is-smallest f carry l = refl
+
 -- lists that say what the facts do give the bound of the facts
 pub bound-in :
     (f : Facts) (carry : ℕ → ℕ) (l : ℕ) (figures periods carries : List ℕ)
@@ -82,11 +88,12 @@ pub bound-in :
     → ((h : ℕ) → h < l → getD periods h 0 ≡ f .period h)
     → ((h : ℕ) → h < l → getD carries h 0 ≡ carry h)
     → smallestIn (neededIn (f .len l) l figures periods carries) (f .len l) (f .deadline l) ≡ boundBy f carry l
-unfolding boundBy admissible slotsNeeded smallestIn neededIn
+unfolding slotsNeeded neededIn
 bound-in f carry l figures periods carries i p c =
-    smallest-same (neededIn (f .len l) l figures periods carries) (slotsNeeded f carry l) (f .len l) (f .deadline l)
+    rw (bound-is-smallest f carry l)
+    (smallest-same (neededIn (f .len l) l figures periods carries) (slotsNeeded f carry l) (f .len l) (f .deadline l)
     (λ R.
     ap (λ (n : ℕ). f .len l + n)
     (sum-cong (λ (h : ℕ). instances R (getD carries h 0) (getD periods h 0) * getD figures h 0)
     (λ (h : ℕ). instances R (carry h) (f .period h) * interference f l h) l
-    (λ h b. rw (i h b, p h b, c h b))))
+    (λ h b. rw (i h b, p h b, c h b)))))

@@ -7,3 +7,6 @@ pub mod Alike
 pub mod Outcome
 pub mod Opened
 pub mod Checking
+pub mod Monotone
+pub mod Accepts
+pub mod Unique

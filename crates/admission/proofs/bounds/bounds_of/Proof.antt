@@ -105,7 +105,7 @@ bounded c =
 
 -- src/bounds.rt:105:13
 cast-if1 : tie.Need-cast-if1 Inv-loop μ-loop
-cast-if1 c = omega (arith, fields (c .before .before .before .before) .3)
+cast-if1 c = omega (arith, fields (c .before .before .before .before))
 
 -- src/bounds.rt:106:28
 refused-requires : tie.Need-refused-requires Inv-loop μ-loop
@@ -130,7 +130,7 @@ returns c =
 
 -- src/bounds.rt:108:21
 cast-bounds : tie.Need-cast-bounds Inv-loop μ-loop
-cast-bounds c = omega (arith, fields (c .before .before .before .before .before) .3)
+cast-bounds c = omega (arith, fields (c .before .before .before .before .before))
 
 -- src/bounds.rt:108:9
 mul-bounds : tie.Need-mul-bounds Inv-loop μ-loop
@@ -142,7 +142,7 @@ array-write-bounds c = omega (arith, c .before .before .before .before .before .
 
 -- src/bounds.rt:109:22
 cast-periods : tie.Need-cast-periods Inv-loop μ-loop
-cast-periods c = omega (arith, fields (c .before .before .before .before .before .before) .2)
+cast-periods c = omega (arith, fields (c .before .before .before .before .before .before))
 
 -- src/bounds.rt:109:9
 mul-periods : tie.Need-mul-periods Inv-loop μ-loop
@@ -154,7 +154,7 @@ array-write-periods c = omega (arith, c .before .before .before .before .before 
 
 -- src/bounds.rt:110:22
 cast-carries : tie.Need-cast-carries Inv-loop μ-loop
-cast-carries c = omega (arith, fields (c .before .before .before .before .before .before .before) .3)
+cast-carries c = omega (arith, fields (c .before .before .before .before .before .before .before))
 
 -- src/bounds.rt:110:9
 mul-carries : tie.Need-mul-carries Inv-loop μ-loop

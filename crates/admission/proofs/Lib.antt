@@ -10,3 +10,4 @@ pub mod Checking
 pub mod Monotone
 pub mod Accepts
 pub mod Unique
+pub mod Splicing

@@ -2,3 +2,4 @@
 pub mod Terms
 pub mod Formed
 pub mod Bounds
+pub mod Change

@@ -56,6 +56,10 @@ drop-zeros zero room = zeros room (room - 0) (omega arith)
 drop-zeros (suc n) zero = zeros 0 (0 - suc n) (omega arith)
 drop-zeros (suc n) (suc room) = drop-zeros n room ∙ zeros (room - n) (suc room - suc n) (omega arith)
 
+pub over-zeros : (room : ℕ) (bytes : List ℕ) → over bytes (replicate room 0) ≡ padded room bytes
+unfolding over padded
+over-zeros room bytes = rw (drop-zeros (length bytes) room)
+
 pub copied-over-zeros : (room : ℕ) (src : List ℕ) → take (length src) src ++ drop (length src) (replicate room 0) ≡ padded room src
 unfolding padded
 copied-over-zeros room src = rw (take-length src, drop-zeros (length src) room)

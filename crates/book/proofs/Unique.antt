@@ -14,6 +14,8 @@ use Rattle.book.proofs.parts.is_miscounted.Kinds as is-miscounted-kinds
 use Rattle.book.proofs.parts.is_miscounted.Reads as is-miscounted
 use Rattle.book.proofs.parts.open_book.Kinds as open-book-kinds
 use Rattle.book.proofs.parts.open_book.Reads as open-book
+use Rattle.book.proofs.records.is_misfit.Kinds as is-misfit-kinds
+use Rattle.book.proofs.records.is_misfit.Reads as is-misfit
 use Rattle.book.proofs.records.record_at.Kinds as record-at-kinds
 use Rattle.book.proofs.records.record_at.Reads as record-at
 use Rattle.book.proofs.records.records_answer.Kinds as records-answer-kinds
@@ -56,6 +58,9 @@ open-book-unique κs a r r' s s' p q = one-result p q
 
 pub record-at-unique : OneResult 1 record-at-kinds.ps record-at-kinds.r record-at.Post
 record-at-unique κs a r r' s s' p q = one-result p q
+
+pub is-misfit-unique : OneResult 0 is-misfit-kinds.ps is-misfit-kinds.r is-misfit.Post
+is-misfit-unique κs a r r' s s' p q = one-result p q
 
 pub records-answer-unique : OneResult 1 records-answer-kinds.ps records-answer-kinds.r records-answer.Post
 records-answer-unique κs a r r' s s' p q = one-result p q

@@ -1,0 +1,49 @@
+-- Bytes with a part exchanged, and what a change of a table owes. Leans on the trade's calls.
+use Prim.Native.Nat.{ℕ, _+_, _-_, _≤_}
+use mathlib.Core.Bool.{cond}
+use mathlib.Core.List.{List, [], _∷_, _++_}
+use lib.Dec.{eqb, leb, ltb}
+use lib.ListN.{length, take, drop}
+use Rattle.trade.specs.Limits.{mostFlows}
+use Rattle.trade.specs.Layout.{Sections}
+use Rattle.trade.specs.Facts.{factsOf}
+use Rattle.trade.specs.Answers.{done, refused, isDone, firstOf, noNumber}
+use Rattle.trade.specs.Codes.{code6, code8, code9}
+use Rattle.trade.specs.Calls.{tableRules}
+use Rattle.trade.specs.declared.answer.Answer.{Answer}
+use Rattle.trade.specs.declared.flow.Flow.{Flow}
+use Rattle.book.specs.Records.{misfit}
+use Rattle.admission.specs.declared.change.Cut.{Cut}
+
+-- the bytes of src up to end, with those from `at` up to `from` exchanged for others
+unfoldable pub spliced : ℕ → ℕ → ℕ → List ℕ → List ℕ → List ℕ
+spliced at from end middle src = take at src ++ middle ++ take (end - from) (drop from src)
+
+-- a section cut open
+abbrev pub cutOpen : Cut → List ℕ → List ℕ → List ℕ
+cutOpen c middle src = spliced (c .at) (c .from) (c .end) middle src
+
+-- the cut lies in the section, and there is room for the outcome
+pub record Cuts (c : Cut) (middle src : List ℕ) (room : ℕ) : Type 0 where
+  pub ordered : c .at ≤ c .from
+  pub within : c .from ≤ c .end
+  pub ends : c .end ≤ length src
+  pub fits : c .at + length middle + (c .end - c .from) ≤ room
+
+-- the rules on the old table, 14 and 15, and the newcomer's own fields: where one is outside its range, the new table's first bad
+-- record is the newcomer
+unfoldable pub mayAdd : Sections → ℕ → Flow → Answer
+mayAdd t place w =
+    cond (isDone (firstOf tableRules noNumber t))
+    (cond (eqb (t .flows) mostFlows) (refused 14 0)
+    (cond (ltb (t .flows) place) (refused 15 0) (cond (misfit w) (refused 6 place) (done 0))))
+    (firstOf tableRules noNumber t)
+
+-- the rules on the old table, and 15
+unfoldable pub mayRemove : Sections → ℕ → Answer
+mayRemove t place =
+    cond (isDone (firstOf tableRules noNumber t)) (cond (leb (t .flows) place) (refused 15 0) (done 0)) (firstOf tableRules noNumber t)
+
+-- the rules on the new table
+unfoldable pub newRules : List (Sections → Answer)
+newRules = (λ t. code6 (factsOf t)) ∷ (λ t. code8 (factsOf t)) ∷ (λ t. code9 (factsOf t)) ∷ []

@@ -1,0 +1,163 @@
+// Adding a flow to a table at a place, and removing one. The old table is handed back where the change is refused.
+ghost use mathlib.Core.Path.{_≡_};
+ghost use Prim.Native.Nat.{_+_, _-_, _*_, _≤_};
+ghost use lib.ListN.{length, take};
+ghost use Rattle.trade.specs.Limits.{rowBytes, mostNodes, mostFlows};
+ghost use Rattle.trade.specs.Bytes.{over, padded};
+ghost use Rattle.trade.specs.Layout.{sections};
+ghost use Rattle.trade.specs.Table.{InMemory, rowsRoom, recordsRoom, stepsRoom};
+ghost use Rattle.trade.specs.Answers.{firstOf, noNumber};
+ghost use Rattle.trade.specs.Calls.{recordOf};
+ghost use Rattle.admission.specs.Change.{spliced, cutOpen, Cuts, mayAdd, mayRemove, newRules};
+ghost use Rattle.book.specs.Table.{sectionsIn};
+
+use crate::bounds::bounds_of;
+use book::records::is_misfit;
+use book::records::records_answer;
+use book::steps::steps_answer;
+use book::table::Table;
+use book::table::table_answer;
+use book::written::put_at;
+use trade::Answer;
+use trade::Flow;
+use trade::Node;
+use trade::Plan;
+
+// What a change answers, and the table after it.
+pub struct Changed {
+    pub answer: Answer,
+    pub table: Table,
+}
+
+// Bytes with those from `at` up to `from` taken out and others put in their place, written over the front of a buffer.
+fn splice(out: &mut [u8], src: &[u8], at: usize, from: usize, end: usize, middle: &[u8])
+    requires { ⌜ (at ≤ from) × (from ≤ end) × (end ≤ length (now src)) ⌝ }
+    requires { ⌜ at + length (now middle) + (end - from) ≤ length (now out) ⌝ }
+    ensures {
+        λ _. ⌜ now (out .exit) ≡ over (spliced at from end (now (middle .entry)) (now (src .entry))) (now (out .entry)) ⌝
+    }
+{
+    put_at(out, 0, &src[..at]);
+    put_at(out, at, middle);
+    put_at(out, at + middle.len(), &src[from..end]);
+}
+
+// Where a section is cut: what stands from `at` up to `from` goes, and it ends at `end`.
+pub struct Cut {
+    pub at: usize,
+    pub from: usize,
+    pub end: usize,
+}
+
+// The table of these rows, and of the records and steps cut open with others put in; zeros behind each.
+fn respliced<'a>(
+    nodes: u8,
+    flows: u8,
+    rows: &'a [u8],
+    records: &'a [u8],
+    steps: &'a [u8],
+    flow: Cut,
+    plan: Cut,
+    newcomer: &[u8],
+    path: &[u8],
+) -> Table
+    requires { ⌜ (rowBytes * nodes ≤ length (now rows)) × (rowBytes * nodes ≤ rowsRoom) ⌝ }
+    requires { ⌜ Cuts flow (now newcomer) (now records) recordsRoom ⌝ }
+    requires { ⌜ Cuts plan (now path) (now steps) stepsRoom ⌝ }
+    ensures {
+        λ r. ⌜ sectionsIn r
+        ≡ sections nodes flows (padded rowsRoom (take (rowBytes * nodes) (now (rows .entry)))) (padded recordsRoom (cutOpen flow (now (newcomer .entry)) (now (records .entry)))) (padded stepsRoom (cutOpen plan (now (path .entry)) (now (steps .entry)))) ⌝
+    }
+{
+    let mut r = [0u8; Node::MOST * Node::ROW_BYTES];
+    let mut c = [0u8; Flow::MOST * Flow::RECORD_BYTES];
+    let mut s = [0u8; Flow::MOST * Plan::MOST * Plan::STEP_BYTES];
+    let used = Node::ROW_BYTES * (nodes as usize);
+    put_at(&mut r, 0, &rows[..used]);
+    splice(&mut c, records, flow.at, flow.from, flow.end, newcomer);
+    splice(&mut s, steps, plan.at, plan.from, plan.end, path);
+    Table {
+        nodes,
+        flows,
+        rows: r,
+        records: c,
+        steps: s,
+    }
+}
+
+// A flow's record, ten bytes.
+fn record_bytes(f: Flow) -> [u8; Flow::RECORD_BYTES]
+    ensures { λ r. ⌜ r ≡ recordOf f ⌝ }
+{
+    [
+        (f.id / 256 % 256) as u8,
+        (f.id % 256) as u8,
+        (f.phase / 256 % 256) as u8,
+        (f.phase % 256) as u8,
+        (f.period / 256 % 256) as u8,
+        (f.period % 256) as u8,
+        (f.deadline / 256 % 256) as u8,
+        (f.deadline % 256) as u8,
+        (f.len / 256 % 256) as u8,
+        (f.len % 256) as u8,
+    ]
+}
+
+// Codes 3, 5, 6 and 8 on the old table, then 14 and 15; then the newcomer's own fields, before anything is moved.
+fn may_add<'a>(nodes: usize, flows: usize, rows: &'a [u8], records: &'a [u8], steps: &'a [u8], place: usize, flow: Flow) -> Answer
+    requires { ⌜ InMemory (sections nodes flows (now rows) (now records) (now steps)) ⌝ }
+    ensures {
+        λ r. ⌜ r ≡ mayAdd (sections nodes flows (now (rows .entry)) (now (records .entry)) (now (steps .entry))) place flow ⌝
+    }
+{
+    let tested = table_answer(nodes, flows, rows, records, steps);
+    if tested.code != 0 {
+        return tested;
+    }
+    if flows == Flow::MOST {
+        return Answer::refused(14, 0);
+    }
+    if flows < place {
+        return Answer::refused(15, 0);
+    }
+    if is_misfit(flow) {
+        return Answer::refused(6, place as u64);
+    }
+    Answer::done(0)
+}
+
+// Codes 3, 5, 6 and 8 on the old table, then 15.
+fn may_remove<'a>(nodes: usize, flows: usize, rows: &'a [u8], records: &'a [u8], steps: &'a [u8], place: usize) -> Answer
+    requires { ⌜ InMemory (sections nodes flows (now rows) (now records) (now steps)) ⌝ }
+    ensures {
+        λ r. ⌜ r ≡ mayRemove (sections nodes flows (now (rows .entry)) (now (records .entry)) (now (steps .entry))) place ⌝
+    }
+{
+    let tested = table_answer(nodes, flows, rows, records, steps);
+    if tested.code != 0 {
+        return tested;
+    }
+    if flows <= place {
+        return Answer::refused(15, 0);
+    }
+    Answer::done(0)
+}
+
+// Codes 6, 8 and 9 on the new table, every flow tested.
+fn new_answer<'a>(nodes: usize, flows: usize, rows: &'a [u8], records: &'a [u8], steps: &'a [u8]) -> Answer
+    requires { ⌜ InMemory (sections nodes flows (now rows) (now records) (now steps)) ⌝ }
+    requires { ⌜ (nodes ≤ mostNodes) × (flows ≤ mostFlows) ⌝ }
+    ensures {
+        λ r. ⌜ r ≡ firstOf newRules noNumber (sections nodes flows (now (rows .entry)) (now (records .entry)) (now (steps .entry))) ⌝
+    }
+{
+    let named = records_answer(flows, records);
+    if named.code != 0 {
+        return named;
+    }
+    let stepped = steps_answer(nodes, flows, records, steps);
+    if stepped.code != 0 {
+        return stepped;
+    }
+    bounds_of(flows, rows, records, steps).answer
+}

@@ -13,13 +13,13 @@ use Rattle.trade.specs.Facts.{factsOf}
 use Rattle.trade.specs.Table.{used, bookOf, tableOf}
 use Rattle.trade.specs.Answers.{done, on, noNumber}
 use Rattle.trade.specs.Codes.{badRow, code3, code5, code6, code8, code9, code14, code15Adding}
-use Rattle.trade.specs.Calls.{Written, Adding, tableRules, withFlow, addAnswer, readOf, addOf}
+use Rattle.trade.specs.Calls.{Written, Adding, tableRules, withFlow, addAnswer, boundsOf, readOf, addOf}
 use Rattle.trade.specs.Demands.{Program, planner, Done}
 use Rattle.trade.specs.declared.answer.Answer.{Answer}
 use Rattle.trade.proofs.Bytes.{take-over}
 use Rattle.trade.proofs.Answers.{Passed, passed-none, passed-more, passed-head, passed-tail, passed-first, passed-others, passed-look, firstOf-passed, given-passed}
 use Rattle.trade.proofs.Valid.{Valid, table-valid, code3-passes}
-use Rattle.trade.proofs.Alike.{table-placed, alike-code5, alike-code9, alike-passed}
+use Rattle.trade.proofs.Places.{table-placed, alike-code5, alike-code9, alike-passed}
 use Rattle.trade.proofs.Used.{used-alike, table-alike, Holds, roomy, in-memory-holds, table-in-memory, table-table}
 use Rattle.trade.proofs.Calls.{written}
 use Rattle.trade.proofs.RoundTrip.{write-then-read, write-then-check}
@@ -108,8 +108,11 @@ module _ (a : Adding) (e : Done (addAnswer a)) where
   one-book buffer room =
       record {
         written = ap (λ (w : Written). w .answer .code) wrote;
-        accepted = rw (is-book, added) (write-then-check table table-holds table-passes table-bounds);
-        read = rw (is-book, added) table-read;
+        accepted =
+            rw is-book
+            (write-then-check table table-holds table-passes table-bounds
+            ∙ ap (λ (t : Sections). record { answer = done 0; bounds = boundsOf (factsOf t) }) (sym added));
+        read = rw is-book (table-read ∙ ap (λ (t : Sections). record { answer = done 0; table = t }) (sym added));
         again = λ other more. rw (is-book, table-read) (written table other table-passes (rw is-book at more));
       }
     where

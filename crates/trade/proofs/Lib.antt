@@ -12,7 +12,7 @@ pub mod Area
 pub mod Grants
 pub mod Answers
 pub mod Valid
-pub mod Alike
+pub mod Places
 pub mod Used
 pub mod Whole
 pub mod Calls

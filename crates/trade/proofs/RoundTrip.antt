@@ -22,7 +22,7 @@ use Rattle.trade.specs.declared.answer.Answer.{Answer}
 use Rattle.trade.proofs.First.{and-true}
 use Rattle.trade.proofs.Answers.{Passed, passed-none, passed-more, passed-head, passed-tail, passed-append, passed-done, given-passed, given-false}
 use Rattle.trade.proofs.Valid.{table-valid}
-use Rattle.trade.proofs.Alike.{Alike, Placed, table-placed, alike-allSteps, alike-code9, alike-bounds, alike-passed}
+use Rattle.trade.proofs.Places.{Alike, Placed, table-placed, alike-allSteps, alike-code9, alike-bounds, alike-passed}
 use Rattle.trade.proofs.Used.{same-sections, used-alike, table-alike, table-used, Holds, length-used-rows, length-used-records, length-used-steps, length-trailer, length-book, book-table, roomy}
 use Rattle.trade.proofs.Whole.{passed-framed, passed-steps, book-holds, used-whole, book-parts}
 

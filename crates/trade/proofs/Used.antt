@@ -1,4 +1,4 @@
--- The used places of a table: the rules and the book read nothing else, and zeros behind them change neither. Leans on Alike and
+-- The used places of a table: the rules and the book read nothing else, and zeros behind them change neither. Leans on Places and
 -- Valid. Assumes nothing.
 use Prim.Native.Nat.{ℕ, _+_, _*_, _/_, _%_, _≤_, _<_}
 use mathlib.Core.Path.{_≡_, refl, sym, _∙_, ap, ap₂}
@@ -16,7 +16,7 @@ use Rattle.trade.proofs.First.{lt-or-ge}
 use Rattle.trade.proofs.Sums.{sum-most}
 use Rattle.trade.proofs.Bytes.{byte-padded, length-padded}
 use Rattle.trade.proofs.Valid.{Valid}
-use Rattle.trade.proofs.Alike.{Alike, alike-allSteps}
+use Rattle.trade.proofs.Places.{Alike, alike-allSteps}
 
 -- the same counts, and the same bytes at the used places
 pub record SameUsed (s t : Sections) : Type 0 where

@@ -1,3 +1,13 @@
+-- `admission::change::may_add` meets its contract: each answer stands behind the tests that led to it. Assumes nothing.
+use mathlib.Core.Path.{_≡_, _∙_, sym, ap}
+use mathlib.Core.Bool.{true, false}
+use denote.Ref.{now}
+use borrow.Author.Tests.{eq-eqb, ne-eqb, lt-ltb, le-ltb}
+use Rattle.trade.specs.Layout.{sections}
+use Rattle.trade.specs.Answers.{isDone, firstOf, noNumber}
+use Rattle.trade.specs.Calls.{tableRules}
+use Rattle.trade.specs.declared.answer.Answer.{Answer}
+use Rattle.admission.specs.Change.{mayAdd}
 use borrow.Author.Needs.{needs}
 use Rattle.admission.proofs.change.may_add.Statement.{statement}
 use Rattle.admission.proofs.change.may_add.Tie as tie
@@ -8,13 +18,21 @@ use Rattle.book.proofs.table.table_answer.Reads as table-answer-reads
 use Rattle.trade.proofs.answer.Answer.done.Reads as done-reads
 use Rattle.trade.proofs.answer.Answer.refused.Reads as refused-reads
 
+-- the old table passes
+passes : (c : tie.Else1) → isDone (firstOf tableRules noNumber (sections (c .before .before .before .before .before .before .args .nodes) (c .before .before .before .before .before .before .args .flows) (now (c .before .before .before .before .before .before .args .rows)) (now (c .before .before .before .before .before .before .args .records)) (now (c .before .before .before .before .before .before .args .steps)))) ≡ true
+unfolding isDone
+passes c = eq-eqb _ 0 (sym (ap (λ (r : Answer). r .code) (c .before .before .table-answer .ensures)) ∙ c .if1 .left)
+
 -- src/change.rt:113:9
 table-answer-requires : tie.Need-table-answer-requires
 table-answer-requires c κs = search needs
 
 -- src/change.rt:115:9
 returns : tie.Need-returns
-returns c = ?
+unfolding mayAdd isDone
+returns c =
+    let e = c .before .before .table-answer .ensures in
+    e ∙ rw (ne-eqb _ 0 (λ z. c .if1 .taken (ap (λ (r : Answer). r .code) e ∙ z)))
 
 -- src/change.rt:118:9
 refused-requires : tie.Need-refused-requires
@@ -22,7 +40,8 @@ refused-requires c κs = search needs
 
 -- src/change.rt:118:9
 returns-2 : tie.Need-returns-2
-returns-2 c = ?
+unfolding mayAdd
+returns-2 c = c .refused .ensures ∙ rw (passes (c .before .before), eq-eqb _ _ (c .before .if2 .taken))
 
 -- src/change.rt:121:9
 refused-requires-2 : tie.Need-refused-requires-2
@@ -30,7 +49,10 @@ refused-requires-2 c κs = search needs
 
 -- src/change.rt:121:9
 returns-3 : tie.Need-returns-3
-returns-3 c = ?
+unfolding mayAdd
+returns-3 c =
+    c .refused2 .ensures
+    ∙ rw (passes (c .before .before .before), ne-eqb _ _ (c .before .before .if2 .left), lt-ltb _ _ (c .before .if3 .taken))
 
 -- src/change.rt:123:8
 is-misfit-requires : tie.Need-is-misfit-requires
@@ -42,7 +64,11 @@ refused-requires-3 c κs = search needs
 
 -- src/change.rt:124:9
 returns-4 : tie.Need-returns-4
-returns-4 c = ?
+unfolding mayAdd
+returns-4 c =
+    c .refused3 .ensures
+    ∙ rw
+      (passes (c .before .before .before .before .before), ne-eqb _ _ (c .before .before .before .before .if2 .left), le-ltb _ _ (c .before .before .before .if3 .left), sym (c .before .before .is-misfit .ensures) ∙ c .before .if4 .taken)
 
 -- src/change.rt:126:5
 done-requires : tie.Need-done-requires
@@ -50,7 +76,11 @@ done-requires c κs = search needs
 
 -- src/change.rt:107:1
 returns-5 : tie.Need-returns-5
-returns-5 c = ?
+unfolding mayAdd
+returns-5 c =
+    c .done .ensures
+    ∙ rw
+      (passes (c .before .before .before .before .before), ne-eqb _ _ (c .before .before .before .before .if2 .left), le-ltb _ _ (c .before .before .before .if3 .left), sym (c .before .before .is-misfit .ensures) ∙ c .before .if4 .left)
 
 pub may-add-spec : {M : Type 1} → statement M
 may-add-spec =

@@ -1,24 +1,23 @@
 -- Sections that pass codes 6 and 8, and hold what their counts say, are well formed; so are those of a book that passes codes 1 to 8.
 -- Leans on the trade's Valid and the book's Opening. Assumes nothing.
-use Prim.Native.Nat.{ℕ, _+_, _*_, _≤_, _<_}
-use mathlib.Core.Path.{_≡_, refl, sym, _∙_, ap}
-use mathlib.Core.Bool.{Bool, false, not, _&&_, _||_}
+use Prim.Native.Nat.{ℕ, _*_, _≤_, _<_}
+use mathlib.Core.Path.{_≡_}
+use mathlib.Core.Bool.{false}
 use mathlib.Core.List.{List}
 use native.Mathlib.Omega.{arith}
 use lib.ListN.{length}
 use borrow.Author.Tests.{leb-false, eqb-false}
 use Rattle.trade.specs.Limits.{mostNodes, mostFlows, rowBytes, recordBytes, stepBytes}
 use Rattle.trade.specs.Layout.{Sections, sectionsOf}
-use Rattle.trade.specs.Facts.{Facts, factsOf, said, stepIn, firstStep, allSteps}
+use Rattle.trade.specs.Facts.{Facts, factsOf, said, firstStep, allSteps}
 use Rattle.trade.specs.Codes.{badRecord, badStep, code6, code8}
 use Rattle.trade.specs.Calls.{bookRules, readAnswer}
 use Rattle.trade.proofs.First.{or-false}
 use Rattle.trade.proofs.Answers.{passed-head, passed-tail, givenFirst-passed}
-use Rattle.trade.proofs.Valid.{sound, book-valid}
-use Rattle.plans.specs.Network.{Within}
+use Rattle.trade.proofs.Valid.{sound}
 use Rattle.book.specs.Frame.{frameOf}
 use Rattle.book.proofs.Opening.{passed, done-lies, rows-whole, records-whole, steps-whole}
-use Rattle.admission.specs.Formed.{InRange, Formed}
+use Rattle.admission.specs.Formed.{Formed}
 
 -- a step that is not bad goes from one node below n to another
 pub record Placed (f : Facts) (k : ℕ) : Type 0 where

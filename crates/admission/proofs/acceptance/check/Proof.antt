@@ -1,4 +1,4 @@
--- `admission::check::check` meets its contract: what reading refuses is refused, and else the bounds decide. Assumes nothing.
+-- `admission::acceptance::check` meets its contract: what reading refuses is refused, and else the bounds decide. Assumes nothing.
 use borrow.Author.Needs.{needs}
 use Prim.Native.Nat.{ℕ}
 use mathlib.Core.Path.{_≡_, _∙_, ap}
@@ -12,8 +12,8 @@ use Rattle.book.specs.declared.parts.Opened.{Opened}
 use Rattle.book.proofs.Opening.{done-lies, open-frame}
 use Rattle.admission.proofs.Checking.{checks-refused, checks-bounded, said-bounded}
 use Rattle.admission.proofs.Opened.{book-formed}
-use Rattle.admission.proofs.check.check.Statement.{statement}
-use Rattle.admission.proofs.check.check.Tie as tie
+use Rattle.admission.proofs.acceptance.check.Statement.{statement}
+use Rattle.admission.proofs.acceptance.check.Tie as tie
 
 open-book-requires : tie.Need-open-book-requires
 open-book-requires c κs = search needs

@@ -2,11 +2,10 @@
 -- it is one and every flow has a response bound within its deadline; the bound reported is one, and the smallest; elsewhere, and
 -- refused, zeros. Leans on the trade's Bound and Valid, and on Checking. Assumes nothing.
 use Prim.Native.Nat.{ℕ, _≤_, _<_}
-use mathlib.Core.Path.{_≡_, refl, sym, _∙_, ap}
+use mathlib.Core.Path.{_≡_, sym, _∙_, ap}
 use mathlib.Core.Bool.{true}
 use mathlib.Core.Logic.{_↔_}
 use mathlib.Core.List.{List}
-use native.Mathlib.Omega.{arith}
 use lib.ListN.{getD, replicate}
 use borrow.Author.Tests.{eq-eqb, ne-eqb, not-true}
 use Rattle.trade.specs.Limits.{mostFlows}

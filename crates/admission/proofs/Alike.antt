@@ -1,18 +1,18 @@
 -- What the bounds read: two facts that agree on the first k flows, on the steps of their plans, and on who disturbs whom among the
 -- nodes of those steps, give those flows the same bounds. So the first k flows decide their own bounds, whatever stands below them, and
 -- unused places bear on nothing. Leans on Iteration, Padded and the plans' Parts. Assumes nothing.
-use Prim.Native.Nat.{ℕ, suc, _+_, _*_, _≤_, _<_}
-use mathlib.Core.Path.{_≡_, refl, sym, _∙_, ap, ap₂}
+use Prim.Native.Nat.{ℕ, _+_, _*_, _≤_, _<_}
+use mathlib.Core.Path.{_≡_, refl, _∙_, ap, ap₂}
 use mathlib.Core.Bool.{Bool, not, _||_}
 use mathlib.Core.List.{List}
 use native.Mathlib.Omega.{arith}
 use lib.Dec.{leb}
 use Rattle.trade.specs.Limits.{mostFlows}
-use Rattle.trade.specs.First.{first, some, sumTo}
+use Rattle.trade.specs.First.{some}
 use Rattle.trade.specs.Facts.{Facts, factsIn, factsOf, firstStep, stepOf}
 use Rattle.trade.specs.Conflict.{meet, conflict}
 use Rattle.trade.specs.Interference.{matrix, worstPath, interference}
-use Rattle.trade.specs.Bound.{instances, slotsNeeded, admissible, boundBy, bound, boundless, accepted}
+use Rattle.trade.specs.Bound.{instances, slotsNeeded, boundBy, bound, boundless, accepted}
 use Rattle.trade.specs.Answers.{given, givenFirst}
 use Rattle.trade.specs.Codes.{code9}
 use Rattle.trade.specs.Calls.{boundsOf}

@@ -1,7 +1,7 @@
 -- Laws of ceil(a / b), and of the instances that may act within R slots: they grow with R and with the carry-in, and shrink with the
 -- period. Leans on nothing. Assumes nothing.
 use Prim.Native.Nat.{ℕ, suc, _+_, _-_, _*_, _/_, _≤_, _<_}
-use mathlib.Core.Path.{_≡_, sym, _∙_, ap}
+use mathlib.Core.Path.{_≡_}
 use mathlib.Core.Logic.{_↔_}
 use native.Mathlib.Omega.{arith}
 use native.Mathlib.Nat.{div-lt-iff-lt-mul, le-trans, mul-le-mul-left, mul-one}

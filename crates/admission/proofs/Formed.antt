@@ -1,23 +1,23 @@
 -- What sections whose first k flows are well formed say: their plans lie in the steps, and the figure of two of them is the worst path
 -- through their plans, at most a plan's length. Leans on the plans' Parts. Assumes nothing.
 use Prim.Native.Nat.{ℕ, zero, suc, _+_, _-_, _*_, _≤_, _<_}
-use mathlib.Core.Path.{_≡_, refl, sym, _∙_, ap}
+use mathlib.Core.Path.{_≡_}
 use mathlib.Core.Bool.{Bool, true, false}
 use mathlib.Core.List.{List}
 use native.Mathlib.Omega.{arith}
 use lib.ListN.{length, drop, length-drop}
 use lib.Seq.{length-take-le}
-use Rattle.trade.specs.Limits.{mostFlows, mostSteps, recordBytes, stepBytes}
-use Rattle.trade.specs.First.{sumTo, largestFrom}
+use Rattle.trade.specs.Limits.{mostSteps, stepBytes}
+use Rattle.trade.specs.First.{sumTo}
 use Rattle.trade.specs.Bytes.{part}
 use Rattle.trade.specs.Layout.{field, sections}
-use Rattle.trade.specs.Facts.{factsIn, factsOf, firstStep, stepIn}
+use Rattle.trade.specs.Facts.{factsIn, factsOf, firstStep}
 use Rattle.trade.specs.Interference.{Matrix, one, worst, worstPath, interference}
 use Rattle.trade.proofs.Sums.{sum-le, sum-next, largest-below}
-use Rattle.plans.specs.Network.{Within, AllWithin}
+use Rattle.plans.specs.Network.{AllWithin}
 use Rattle.plans.specs.Line.{stepsIn, marksOf}
 use Rattle.plans.proofs.Parts.{within-plan, interference-plans}
-use Rattle.admission.specs.Formed.{InRange, Formed}
+use Rattle.admission.specs.Formed.{Formed}
 
 -- where plan i starts, and the part of the steps that holds it
 abbrev pub startOf : List ℕ → ℕ → ℕ
@@ -62,9 +62,6 @@ module _ (k : ℕ) (rows records steps : List ℕ) (f : Formed k rows records st
 
   pub plan-lies : stepBytes * (startOf records i + field records i 4) ≤ length steps
   plan-lies = omega (arith, upto, f .planned)
-
-  pub record-lies : recordBytes * i + recordBytes ≤ length records
-  record-lies = omega (arith, f .recorded)
 
   -- it has at most so many bytes, and its steps lie in the network
   pub length-plan : length (planAt records steps i) ≤ stepBytes * mostSteps

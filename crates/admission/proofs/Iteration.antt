@@ -1,16 +1,15 @@
 -- The search for the smallest R that is at least what is needed within it, from below. What is needed grows with R, so an R that needs
 -- more rules out every one up to what it needs. Leans on Ceil, and on the trade's First and Sums. Assumes nothing.
 use Prim.Native.Nat.{ℕ, suc, _+_, _*_, _≤_, _<_}
-use mathlib.Core.Path.{_≡_, refl, sym, _∙_, ap}
-use mathlib.Core.Bool.{Bool, true, false, _&&_, and-false}
+use mathlib.Core.Path.{_≡_, refl, _∙_, ap}
+use mathlib.Core.Bool.{Bool, false, _&&_, and-false}
 use mathlib.Core.List.{List}
 use mathlib.Core.Logic.{⊎-elim}
 use native.Mathlib.Omega.{arith}
-use native.Mathlib.Nat.{add-le-add, le-trans, mul-le-mul}
+use native.Mathlib.Nat.{add-le-add, mul-le-mul}
 use lib.Dec.{leb}
 use lib.ListN.{getD}
 use borrow.Author.Tests.{le-leb, lt-leb}
-use Rattle.trade.specs.First.{first, sumTo}
 use Rattle.trade.specs.Facts.{Facts}
 use Rattle.trade.specs.Interference.{interference}
 use Rattle.trade.specs.Bound.{instances, slotsNeeded, admissible, boundBy}

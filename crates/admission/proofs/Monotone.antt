@@ -1,7 +1,7 @@
 -- A bound falls, or stays, where a term of its sum does: where a flow above has a longer period, a shorter carry-in or a smaller
 -- figure. Leans on Iteration. Assumes nothing.
-use Prim.Native.Nat.{ℕ, suc, _+_, _*_, _≤_, _<_}
-use mathlib.Core.Path.{_≡_, refl, sym, _∙_, ap, ap₂}
+use Prim.Native.Nat.{ℕ, suc, _*_, _≤_, _<_}
+use mathlib.Core.Path.{_≡_, refl}
 use mathlib.Core.Bool.{Bool, true, _&&_}
 use mathlib.Core.Logic.{⊎-elim}
 use native.Mathlib.Omega.{arith}
@@ -11,7 +11,7 @@ use borrow.Author.Tests.{leb-true, le-leb}
 use Rattle.trade.specs.First.{first}
 use Rattle.trade.specs.Facts.{Facts}
 use Rattle.trade.specs.Interference.{interference}
-use Rattle.trade.specs.Bound.{instances, slotsNeeded, admissible, boundBy, bound}
+use Rattle.trade.specs.Bound.{instances, slotsNeeded, boundBy}
 use Rattle.trade.proofs.First.{not-both, and-true, lt-or-ge, first-within, first-before, first-holds}
 use Rattle.trade.proofs.Sums.{sum-mono}
 use Rattle.admission.specs.Terms.{smallestIn}

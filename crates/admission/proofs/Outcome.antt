@@ -1,10 +1,8 @@
 -- What the bounds of all flows come to: code 9 at the first flow without one, or the bounds. Leans on the trade's Answers. Assumes
 -- nothing.
 use Prim.Native.Nat.{ℕ, _≤_, _<_}
-use mathlib.Core.Path.{_≡_, refl, sym, _∙_, ap}
-use mathlib.Core.Bool.{true, false, not}
-use lib.Dec.{leb}
-use native.Mathlib.Omega.{arith}
+use mathlib.Core.Path.{_≡_}
+use mathlib.Core.Bool.{true, false}
 use borrow.Author.Tests.{le-leb, lt-leb}
 use Rattle.trade.specs.Facts.{Facts}
 use Rattle.trade.specs.Bound.{bound, boundless}

@@ -11,12 +11,12 @@ use Rattle.book.proofs.Pasting.{pasted-first, pasted-next}
 use Rattle.admission.specs.Change.{spliced}
 
 pub splice-in-turn :
-  (at from end : ℕ) (middle src d d₁ d₂ d₃ : List ℕ)
-  → at ≤ length src
-  → d₁ ≡ pastedAt 0 (take at src) d
-  → d₂ ≡ pastedAt at middle d₁
-  → d₃ ≡ pastedAt (at + length middle) (take (end - from) (drop from src)) d₂
-  → d₃ ≡ over (spliced at from end middle src) d
+    (at from end : ℕ) (middle src d d₁ d₂ d₃ : List ℕ)
+    → at ≤ length src
+    → d₁ ≡ pastedAt 0 (take at src) d
+    → d₂ ≡ pastedAt at middle d₁
+    → d₃ ≡ pastedAt (at + length middle) (take (end - from) (drop from src)) d₂
+    → d₃ ≡ over (spliced at from end middle src) d
 unfolding spliced
 splice-in-turn at from end middle src d d₁ d₂ d₃ h e₁ e₂ e₃ =
     let front : List ℕ = take at src in

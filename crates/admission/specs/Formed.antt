@@ -1,5 +1,5 @@
 -- Sections whose flows have passed codes 6, 7 and 8, as far as the bounds read them. Leans on the trade's layout.
-use Prim.Native.Nat.{ℕ, _+_, _*_, _≤_, _<_}
+use Prim.Native.Nat.{ℕ, _*_, _≤_, _<_}
 use mathlib.Core.List.{List}
 use lib.ListN.{length}
 use Rattle.trade.specs.Limits.{mostFlows, mostSteps, mostPeriod, recordBytes, stepBytes}

@@ -10,7 +10,6 @@ ghost use Rattle.trade.specs.Answers.{firstOf, noNumber};
 ghost use Rattle.trade.specs.Calls.{recordOf};
 ghost use Rattle.admission.specs.Change.{spliced, cutOpen, Cuts, mayAdd, mayRemove, newRules};
 ghost use Rattle.book.specs.Table.{sectionsIn};
-
 use crate::bounds::bounds_of;
 use book::records::is_misfit;
 use book::records::records_answer;
@@ -33,9 +32,7 @@ pub struct Changed {
 fn splice(out: &mut [u8], src: &[u8], at: usize, from: usize, end: usize, middle: &[u8])
     requires { ⌜ (at ≤ from) × (from ≤ end) × (end ≤ length (now src)) ⌝ }
     requires { ⌜ at + length (now middle) + (end - from) ≤ length (now out) ⌝ }
-    ensures {
-        λ _. ⌜ now (out .exit) ≡ over (spliced at from end (now (middle .entry)) (now (src .entry))) (now (out .entry)) ⌝
-    }
+    ensures { λ _. ⌜ now (out .exit) ≡ over (spliced at from end (now (middle .entry)) (now (src .entry))) (now (out .entry)) ⌝ }
 {
     put_at(out, 0, &src[..at]);
     put_at(out, at, middle);
@@ -64,10 +61,8 @@ fn respliced<'a>(
     requires { ⌜ (rowBytes * nodes ≤ length (now rows)) × (rowBytes * nodes ≤ rowsRoom) ⌝ }
     requires { ⌜ Cuts flow (now newcomer) (now records) recordsRoom ⌝ }
     requires { ⌜ Cuts plan (now path) (now steps) stepsRoom ⌝ }
-    ensures {
-        λ r. ⌜ sectionsIn r
-        ≡ sections nodes flows (padded rowsRoom (take (rowBytes * nodes) (now (rows .entry)))) (padded recordsRoom (cutOpen flow (now (newcomer .entry)) (now (records .entry)))) (padded stepsRoom (cutOpen plan (now (path .entry)) (now (steps .entry)))) ⌝
-    }
+    ensures { λ r. ⌜ sectionsIn r
+        ≡ sections nodes flows (padded rowsRoom (take (rowBytes * nodes) (now (rows .entry)))) (padded recordsRoom (cutOpen flow (now (newcomer .entry)) (now (records .entry)))) (padded stepsRoom (cutOpen plan (now (path .entry)) (now (steps .entry)))) ⌝ }
 {
     let mut r = [0u8; Node::MOST * Node::ROW_BYTES];
     let mut c = [0u8; Flow::MOST * Flow::RECORD_BYTES];
@@ -104,11 +99,17 @@ fn record_bytes(f: Flow) -> [u8; Flow::RECORD_BYTES]
 }
 
 // Codes 3, 5, 6 and 8 on the old table, then 14 and 15; then the newcomer's own fields, before anything is moved.
-fn may_add<'a>(nodes: usize, flows: usize, rows: &'a [u8], records: &'a [u8], steps: &'a [u8], place: usize, flow: Flow) -> Answer
+fn may_add<'a>(
+    nodes: usize,
+    flows: usize,
+    rows: &'a [u8],
+    records: &'a [u8],
+    steps: &'a [u8],
+    place: usize,
+    flow: Flow,
+) -> Answer
     requires { ⌜ InMemory (sections nodes flows (now rows) (now records) (now steps)) ⌝ }
-    ensures {
-        λ r. ⌜ r ≡ mayAdd (sections nodes flows (now (rows .entry)) (now (records .entry)) (now (steps .entry))) place flow ⌝
-    }
+    ensures { λ r. ⌜ r ≡ mayAdd (sections nodes flows (now (rows .entry)) (now (records .entry)) (now (steps .entry))) place flow ⌝ }
 {
     let tested = table_answer(nodes, flows, rows, records, steps);
     if tested.code != 0 {
@@ -127,11 +128,16 @@ fn may_add<'a>(nodes: usize, flows: usize, rows: &'a [u8], records: &'a [u8], st
 }
 
 // Codes 3, 5, 6 and 8 on the old table, then 15.
-fn may_remove<'a>(nodes: usize, flows: usize, rows: &'a [u8], records: &'a [u8], steps: &'a [u8], place: usize) -> Answer
+fn may_remove<'a>(
+    nodes: usize,
+    flows: usize,
+    rows: &'a [u8],
+    records: &'a [u8],
+    steps: &'a [u8],
+    place: usize,
+) -> Answer
     requires { ⌜ InMemory (sections nodes flows (now rows) (now records) (now steps)) ⌝ }
-    ensures {
-        λ r. ⌜ r ≡ mayRemove (sections nodes flows (now (rows .entry)) (now (records .entry)) (now (steps .entry))) place ⌝
-    }
+    ensures { λ r. ⌜ r ≡ mayRemove (sections nodes flows (now (rows .entry)) (now (records .entry)) (now (steps .entry))) place ⌝ }
 {
     let tested = table_answer(nodes, flows, rows, records, steps);
     if tested.code != 0 {
@@ -144,12 +150,16 @@ fn may_remove<'a>(nodes: usize, flows: usize, rows: &'a [u8], records: &'a [u8],
 }
 
 // Codes 6, 8 and 9 on the new table, every flow tested.
-fn new_answer<'a>(nodes: usize, flows: usize, rows: &'a [u8], records: &'a [u8], steps: &'a [u8]) -> Answer
+fn new_answer<'a>(
+    nodes: usize,
+    flows: usize,
+    rows: &'a [u8],
+    records: &'a [u8],
+    steps: &'a [u8],
+) -> Answer
     requires { ⌜ InMemory (sections nodes flows (now rows) (now records) (now steps)) ⌝ }
     requires { ⌜ (nodes ≤ mostNodes) × (flows ≤ mostFlows) ⌝ }
-    ensures {
-        λ r. ⌜ r ≡ firstOf newRules noNumber (sections nodes flows (now (rows .entry)) (now (records .entry)) (now (steps .entry))) ⌝
-    }
+    ensures { λ r. ⌜ r ≡ firstOf newRules noNumber (sections nodes flows (now (rows .entry)) (now (records .entry)) (now (steps .entry))) ⌝ }
 {
     let named = records_answer(flows, records);
     if named.code != 0 {

@@ -1,5 +1,5 @@
-// Admission: the response bounds of the flows of a book or a table, and the check of a book.
+// Admission: the response bounds of the flows of a book or a table, the check of a book, and changes of a table.
+pub mod acceptance;
 pub mod bounds;
 pub mod change;
-pub mod check;
 pub mod rising;

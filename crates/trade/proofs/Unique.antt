@@ -10,10 +10,10 @@ use Rattle.trade.proofs.answer.Answer.refused.Kinds as refused-kinds
 use Rattle.trade.proofs.answer.Answer.refused.Reads as refused
 use Rattle.trade.proofs.answer.Answer.packed.Kinds as packed-kinds
 use Rattle.trade.proofs.answer.Answer.packed.Reads as packed
-use Rattle.trade.proofs.run.Progress.idle.Kinds as idle-kinds
-use Rattle.trade.proofs.run.Progress.idle.Reads as idle
-use Rattle.trade.proofs.run.Run.empty.Kinds as empty-kinds
-use Rattle.trade.proofs.run.Run.empty.Reads as empty
+use Rattle.trade.proofs.state.Progress.idle.Kinds as idle-kinds
+use Rattle.trade.proofs.state.Progress.idle.Reads as idle
+use Rattle.trade.proofs.state.Run.empty.Kinds as empty-kinds
+use Rattle.trade.proofs.state.Run.empty.Reads as empty
 use Rattle.trade.proofs.limits.all_limits.Kinds as all-limits-kinds
 use Rattle.trade.proofs.limits.all_limits.Reads as all-limits
 

@@ -2,8 +2,8 @@
 use lib.ListN.{replicate}
 use Prim.Native.Nat.{ℕ}
 use Rattle.trade.specs.Limits.{mostFlows}
-use Rattle.trade.specs.declared.run.Progress.{Progress}
-use Rattle.trade.specs.declared.run.Run.{Run}
+use Rattle.trade.specs.declared.state.Progress.{Progress}
+use Rattle.trade.specs.declared.state.Run.{Run}
 
 -- an idle flow: its byte is its L
 abbrev pub idleOf : ℕ → Progress

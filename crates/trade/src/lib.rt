@@ -1,22 +1,22 @@
 // The words of the trade, and the figures that bound them.
 pub mod answer;
-pub mod book;
 pub mod clock;
 pub mod flow;
+pub mod layout;
 pub mod limits;
 pub mod node;
-pub mod run;
+pub mod state;
 
 pub use answer::Answer;
-pub use book::Book;
 pub use clock::Clock;
 pub use clock::Instance;
 pub use clock::Slot;
 pub use clock::Step;
 pub use flow::Flow;
 pub use flow::Plan;
+pub use layout::Book;
 pub use node::Node;
 pub use node::Transmission;
-pub use run::Grant;
-pub use run::Progress;
-pub use run::Run;
+pub use state::Grant;
+pub use state::Progress;
+pub use state::Run;

@@ -2,13 +2,13 @@
 ghost use mathlib.Core.Path.{_≡_};
 ghost use Rattle.trade.specs.Limits.{limitsOf};
 use crate::answer::Answer;
-use crate::book::Book;
 use crate::clock::Clock;
 use crate::flow::Flow;
 use crate::flow::Plan;
+use crate::layout::Book;
 use crate::node::Node;
-use crate::run::Grant;
-use crate::run::Run;
+use crate::state::Grant;
+use crate::state::Run;
 
 pub struct Limits {
     pub nodes: usize,

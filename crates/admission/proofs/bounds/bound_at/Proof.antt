@@ -1,6 +1,6 @@
 -- `admission::bounds::bound_at` meets its contract: the three arrays say what the facts do. Assumes nothing.
 use borrow.Author.Needs.{needs}
-use Prim.Native.Nat.{ℕ, _+_, _≤_, _<_}
+use Prim.Native.Nat.{ℕ, _<_}
 use mathlib.Core.Path.{_≡_, refl, _∙_, ap, ap₂}
 use mathlib.Core.List.{List}
 use denote.Ref.{now}
@@ -16,25 +16,16 @@ use Rattle.admission.proofs.Iteration.{bound-in}
 use Rattle.admission.proofs.Padded.{filled-at}
 use Rattle.admission.proofs.bounds.bound_at.Statement.{statement}
 use Rattle.admission.proofs.bounds.bound_at.Tie as tie
-use Rattle.admission.proofs.bounds.bound_at.Reads as reads
-use Rattle.admission.proofs.bounds.bound_at.Lts as lts
-use Rattle.admission.proofs.bounds.figures_of.Reads as figures-of-reads
-use Rattle.admission.proofs.rising.smallest.Reads as smallest-reads
-use Rattle.book.proofs.records.record_at.Reads as record-at-reads
 
--- src/bounds.rt:81:9
 record-at-requires : tie.Need-record-at-requires
 record-at-requires c κs = search needs
 
--- src/bounds.rt:82:19
 figures-of-requires : tie.Need-figures-of-requires
 figures-of-requires c κs = search needs
 
--- src/bounds.rt:84:9
 cast-smallest : tie.Need-cast-smallest
 cast-smallest c = search needs
 
--- src/bounds.rt:85:9
 cast-smallest-2 : tie.Need-cast-smallest-2
 cast-smallest-2 c = search needs
 
@@ -50,7 +41,6 @@ figure c h l =
     rw (c .figures-of .ensures)
     (filled-at mostFlows (interference (factsIn 0 0 (now (a .rows)) (now (a .records)) (now (a .steps))) (a .l)) (a .l) h l)
 
--- src/bounds.rt:83:5
 smallest-requires : tie.Need-smallest-requires
 unfolding flowIn
 smallest-requires c κs =
@@ -79,7 +69,6 @@ smallest-requires c κs =
       omega (arith, deadline, own .deadline, own .period .1),
     )
 
--- src/bounds.rt:68:1
 returns : tie.Need-returns
 unfolding flowIn factsOf
 returns c =

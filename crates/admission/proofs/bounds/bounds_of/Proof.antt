@@ -1,6 +1,6 @@
 -- `admission::bounds::bounds_of` meets its contract: each flow passed has its bound, which stands in the array. Assumes nothing.
 use Prim.Native.Nat.{ℕ, _+_, _-_, _≤_, _<_}
-use mathlib.Core.Path.{_≡_, refl, sym, _∙_, ap, ap₂}
+use mathlib.Core.Path.{_≡_, sym, _∙_, ap, ap₂}
 use mathlib.Core.Bool.{false}
 use mathlib.Core.List.{List}
 use borrow.Author.Count.{below-more}
@@ -21,13 +21,6 @@ use Rattle.admission.proofs.Outcome.{boundless-over, boundless-in, boun
 use Rattle.admission.proofs.Padded.{filled, filled-none, filled-more, filled-at}
 use Rattle.admission.proofs.bounds.bounds_of.Statement.{statement}
 use Rattle.admission.proofs.bounds.bounds_of.Tie as tie
-use Rattle.admission.proofs.bounds.bounds_of.Reads as reads
-use Rattle.admission.proofs.bounds.bounds_of.Lts as lts
-use Rattle.admission.proofs.bounds.bound_at.Reads as bound-at-reads
-use Rattle.admission.proofs.bounds.refused.Reads as bounds-refused-reads
-use Rattle.book.proofs.records.record_at.Reads as record-at-reads
-use Rattle.trade.proofs.answer.Answer.done.Reads as done-reads
-use Rattle.trade.proofs.answer.Answer.refused.Reads as answer-Answer-refused-reads
 
 abbrev Inv-loop : tie.InvT-loop
 Inv-loop flows rows records steps bounds₀ periods₀ carries₀ l₀ bounds periods carries l =
@@ -40,7 +33,6 @@ Inv-loop flows rows records steps bounds₀ periods₀ carries₀ l₀ bounds pe
 abbrev μ-loop : tie.MeasureT-loop
 μ-loop flows rows records steps bounds₀ periods₀ carries₀ l₀ bounds periods carries l = flows - l
 
--- src/bounds.rt:102:5
 loop-holds : tie.Need-loop-holds Inv-loop μ-loop
 loop-holds c =
     let a = c .before .before .before .args in
@@ -52,11 +44,9 @@ loop-holds c =
       λ k h. absurd (omega arith),
     )
 
--- src/bounds.rt:103:13
 record-at-requires : tie.Need-record-at-requires Inv-loop μ-loop
 record-at-requires c κs = omega (arith, c .before .before .before .before .before .pre .recorded)
 
--- src/bounds.rt:104:13
 bound-at-requires : tie.Need-bound-at-requires Inv-loop μ-loop
 bound-at-requires c κs =
     let s = c .before .before .before .before .before .before .before .before in
@@ -103,19 +93,15 @@ bounded c =
     (λ h. getD (loop .carries) h 0) deadline (loop .l) (omega arith)
     (λ h b. rw (loop .inv .3) (filled-at mostFlows deadline (loop .l) h b))
 
--- src/bounds.rt:105:13
 cast-if1 : tie.Need-cast-if1 Inv-loop μ-loop
 cast-if1 c = omega (arith, fields (c .before .before .before .before))
 
--- src/bounds.rt:106:28
 refused-requires : tie.Need-refused-requires Inv-loop μ-loop
 refused-requires c κs = tt
 
--- src/bounds.rt:106:13
 refused-requires-2 : tie.Need-refused-requires-2 Inv-loop μ-loop
 refused-requires-2 c κs = tt
 
--- src/bounds.rt:106:13
 returns : tie.Need-returns Inv-loop μ-loop
 unfolding factsOf
 returns c =
@@ -128,51 +114,39 @@ returns c =
     ∙ ap refusedBy (c .before .refused .ensures)
     ∙ sym (bounded-refused f (loop .l) (omega arith) (loop .inv .4) (boundless-over f (loop .l) over))
 
--- src/bounds.rt:108:21
 cast-bounds : tie.Need-cast-bounds Inv-loop μ-loop
 cast-bounds c = omega (arith, fields (c .before .before .before .before .before))
 
--- src/bounds.rt:108:9
 mul-bounds : tie.Need-mul-bounds Inv-loop μ-loop
 mul-bounds c = omega (arith, c .before .before .before .before .before .before .before .before .before .before .before .pre .most)
 
--- src/bounds.rt:108:9
 array-write-bounds : tie.Need-array-write-bounds Inv-loop μ-loop
 array-write-bounds c = omega (arith, c .before .before .before .before .before .before .before .before .before .before .before .pre .most)
 
--- src/bounds.rt:109:22
 cast-periods : tie.Need-cast-periods Inv-loop μ-loop
 cast-periods c = omega (arith, fields (c .before .before .before .before .before .before))
 
--- src/bounds.rt:109:9
 mul-periods : tie.Need-mul-periods Inv-loop μ-loop
 mul-periods c = omega (arith, c .before .before .before .before .before .before .before .before .before .before .before .before .pre .most)
 
--- src/bounds.rt:109:9
 array-write-periods : tie.Need-array-write-periods Inv-loop μ-loop
 array-write-periods c = omega (arith, c .before .before .before .before .before .before .before .before .before .before .before .before .pre .most)
 
--- src/bounds.rt:110:22
 cast-carries : tie.Need-cast-carries Inv-loop μ-loop
 cast-carries c = omega (arith, fields (c .before .before .before .before .before .before .before))
 
--- src/bounds.rt:110:9
 mul-carries : tie.Need-mul-carries Inv-loop μ-loop
 mul-carries c = omega (arith, c .before .before .before .before .before .before .before .before .before .before .before .before .before .pre .most)
 
--- src/bounds.rt:110:9
 array-write-carries : tie.Need-array-write-carries Inv-loop μ-loop
 array-write-carries c = omega (arith, c .before .before .before .before .before .before .before .before .before .before .before .before .before .pre .most)
 
--- src/bounds.rt:111:9
 add-l : tie.Need-add-l Inv-loop μ-loop
 add-l c = omega (arith, c .before .before .before .before .before .before .before .before .before .before .before .before .before .pre .most)
 
--- src/bounds.rt:102:5
 loop-less : tie.Need-loop-less Inv-loop μ-loop
 loop-less c = omega arith
 
--- src/bounds.rt:102:5
 loop-again : tie.Need-loop-again Inv-loop μ-loop
 unfolding factsOf
 loop-again c =
@@ -191,11 +165,9 @@ loop-again c =
       below-more _ _ (loop .inv .4) (boundless-in f (loop .l) within),
     )
 
--- src/bounds.rt:114:17
 done-requires : tie.Need-done-requires Inv-loop μ-loop
 done-requires c κs = tt
 
--- src/bounds.rt:94:1
 returns-2 : tie.Need-returns-2 Inv-loop μ-loop
 unfolding factsOf boundsOf
 returns-2 c =

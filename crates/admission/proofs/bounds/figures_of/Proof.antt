@@ -1,5 +1,5 @@
 -- `admission::bounds::figures_of` meets its contract: the figures passed stand in the array. Assumes nothing.
-use Prim.Native.Nat.{ℕ, _+_, _-_, _*_, _≤_, _<_}
+use Prim.Native.Nat.{ℕ, _+_, _-_, _*_, _≤_}
 use mathlib.Core.Path.{_≡_, refl, sym, _∙_, ap, ap₂}
 use mathlib.Core.List.{List}
 use denote.Ref.{now}
@@ -14,16 +14,10 @@ use Rattle.trade.specs.Interference.{worstPath, interference}
 use Rattle.trade.specs.First.{sumTo}
 use Rattle.trade.proofs.Sums.{sum-next}
 use Rattle.plans.specs.Line.{stepsIn, marksOf}
-use Rattle.admission.proofs.Formed.{startOf, planAt, interference-most, plan-lies, record-lies, length-plan, plan-within, figure-plans}
-use Rattle.admission.proofs.Padded.{filled, filled-none, filled-more, length-filled}
+use Rattle.admission.proofs.Formed.{startOf, planAt, interference-most, plan-lies, length-plan, plan-within, figure-plans}
+use Rattle.admission.proofs.Padded.{filled, filled-none, filled-more}
 use Rattle.admission.proofs.bounds.figures_of.Statement.{statement}
 use Rattle.admission.proofs.bounds.figures_of.Tie as tie
-use Rattle.admission.proofs.bounds.figures_of.Reads as reads
-use Rattle.admission.proofs.bounds.figures_of.Lts as lts
-use Rattle.admission.proofs.bounds.plan_from.Reads as plan-from-reads
-use Rattle.book.proofs.records.len_at.Reads as len-at-reads
-use Rattle.book.proofs.records.steps_before.Reads as steps-before-reads
-use Rattle.plans.proofs.interference.interference.Reads as interference-reads
 
 abbrev Inv-loop : tie.InvT-loop
 Inv-loop rows records steps l plan figures₀ start₀ h₀ figures start h =
@@ -35,17 +29,14 @@ Inv-loop rows records steps l plan figures₀ start₀ h₀ figures start h =
 abbrev μ-loop : tie.MeasureT-loop
 μ-loop rows records steps l plan figures₀ start₀ h₀ figures start h = l - h
 
--- src/bounds.rt:54:33
 steps-before-requires : tie.Need-steps-before-requires Inv-loop μ-loop
 steps-before-requires c κs =
     let f = c .before .before .before .pre in
     (omega (arith, f .most), omega (arith, f .recorded))
 
--- src/bounds.rt:54:59
 len-at-requires : tie.Need-len-at-requires Inv-loop μ-loop
 len-at-requires c κs = omega (arith, c .before .before .before .before .pre .recorded)
 
--- src/bounds.rt:54:9
 plan-from-requires : tie.Need-plan-from-requires Inv-loop μ-loop
 plan-from-requires c κs =
     let s = c .before .before .before .before .before in
@@ -53,7 +44,6 @@ plan-from-requires c κs =
     rw (c .before .steps-before .ensures .0, c .len-at .ensures .0)
     (plan-lies (a .l + 1) (now (a .rows)) (now (a .records)) (now (a .steps)) (s .pre) (a .l) (omega arith))
 
--- src/bounds.rt:58:5
 loop-holds : tie.Need-loop-holds Inv-loop μ-loop
 unfolding sumTo
 loop-holds c =
@@ -65,7 +55,6 @@ loop-holds c =
           ∙ ap₂ (λ (start len : ℕ). part (stepBytes * start) (stepBytes * len) (now (a .steps))) (c .before .before .steps-before .ensures .0) (c .before .len-at .ensures .0),
     )
 
--- src/bounds.rt:59:13
 len-at-requires-2 : tie.Need-len-at-requires-2 Inv-loop μ-loop
 len-at-requires-2 c κs =
     let s = c .before .before .before .before .before .before .before .before in
@@ -91,11 +80,9 @@ above c =
     c .plan-from2 .ensures
     ∙ ap₂ (λ (start len : ℕ). part (stepBytes * start) (stepBytes * len) (now (a .steps))) (c .before .before .before .loop .inv .1) (c .before .len-at2 .ensures .0)
 
--- src/bounds.rt:60:47
 plan-from-requires-2 : tie.Need-plan-from-requires-2 Inv-loop μ-loop
 plan-from-requires-2 c κs = lies c
 
--- src/bounds.rt:60:22
 interference-requires : tie.Need-interference-requires Inv-loop μ-loop
 interference-requires c κs =
     let s = c .before .before .before .before .before .before .before .before .before .before in
@@ -122,7 +109,6 @@ figure c =
     ∙ ap₂ (λ (l h : List ℕ). worstPath (marksOf (now (a .rows)) l h) (stepsIn l) (stepsIn h)) (loop .inv .3) (above (c .before))
     ∙ sym (figure-plans (a .l + 1) (now (a .rows)) (now (a .records)) (now (a .steps)) (s .pre) (a .l) (loop .h) (omega arith) (omega arith))
 
--- src/bounds.rt:60:22
 cast-figures : tie.Need-cast-figures Inv-loop μ-loop
 cast-figures c =
     let s = c .before .before .before .before .before .before .before .before .before .before .before in
@@ -135,27 +121,21 @@ cast-figures c =
       s .pre .fields h (omega arith) .len .1,
     )
 
--- src/bounds.rt:60:9
 mul-figures : tie.Need-mul-figures Inv-loop μ-loop
 mul-figures c = omega (arith, c .before .before .before .before .before .before .before .before .before .before .before .pre .most)
 
--- src/bounds.rt:60:9
 array-write-figures : tie.Need-array-write-figures Inv-loop μ-loop
 array-write-figures c = omega (arith, c .before .before .before .before .before .before .before .before .before .before .before .pre .most)
 
--- src/bounds.rt:61:9
 add-start : tie.Need-add-start Inv-loop μ-loop
 add-start c = omega (arith, lies (c .before .before))
 
--- src/bounds.rt:62:9
 add-h : tie.Need-add-h Inv-loop μ-loop
 add-h c = omega (arith, c .before .before .before .before .before .before .before .before .before .before .before .pre .most)
 
--- src/bounds.rt:58:5
 loop-less : tie.Need-loop-less Inv-loop μ-loop
 loop-less c = omega arith
 
--- src/bounds.rt:58:5
 loop-again : tie.Need-loop-again Inv-loop μ-loop
 loop-again c =
     let s = c .before .before .before .before .before .before .before .before .before .before .before in
@@ -168,7 +148,6 @@ loop-again c =
       loop .inv .3,
     )
 
--- src/bounds.rt:50:1
 returns : tie.Need-returns Inv-loop μ-loop
 returns c =
     let a = c .before .before .before .before .before .before .before .before .args in

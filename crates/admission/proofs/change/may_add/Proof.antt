@@ -68,7 +68,7 @@ unfolding mayAdd
 returns-4 c =
     c .refused3 .ensures
     ∙ rw
-      (passes (c .before .before .before .before .before), ne-eqb _ _ (c .before .before .before .before .if2 .left), le-ltb _ _ (c .before .before .before .if3 .left), sym (c .before .before .is-misfit .ensures) ∙ c .before .if4 .taken)
+    (passes (c .before .before .before .before .before), ne-eqb _ _ (c .before .before .before .before .if2 .left), le-ltb _ _ (c .before .before .before .if3 .left), sym (c .before .before .is-misfit .ensures) ∙ c .before .if4 .taken)
 
 -- src/change.rt:126:5
 done-requires : tie.Need-done-requires
@@ -80,7 +80,7 @@ unfolding mayAdd
 returns-5 c =
     c .done .ensures
     ∙ rw
-      (passes (c .before .before .before .before .before), ne-eqb _ _ (c .before .before .before .before .if2 .left), le-ltb _ _ (c .before .before .before .if3 .left), sym (c .before .before .is-misfit .ensures) ∙ c .before .if4 .left)
+    (passes (c .before .before .before .before .before), ne-eqb _ _ (c .before .before .before .before .if2 .left), le-ltb _ _ (c .before .before .before .if3 .left), sym (c .before .before .is-misfit .ensures) ∙ c .before .if4 .left)
 
 pub may-add-spec : {M : Type 1} → statement M
 may-add-spec =

@@ -55,10 +55,10 @@ returns c =
     let a = c .before .before .before .before .before .before .before .before .before .before .before .before .before .before .before .args in
     let rows = take (rowBytes * a .nodes) (now (a .rows)) in
     λ i.
-      sections (a .nodes) (a .flows)
-      ((c .before .before .before .before .before .before .before .put-at .ensures ∙ pasted-first rows _ ∙ over-zeros rowsRoom rows) i)
-      ((c .before .before .before .before .splice .ensures ∙ over-zeros recordsRoom _) i)
-      ((c .before .splice2 .ensures ∙ over-zeros stepsRoom _) i)
+    sections (a .nodes) (a .flows)
+    ((c .before .before .before .before .before .before .before .put-at .ensures ∙ pasted-first rows _ ∙ over-zeros rowsRoom rows) i)
+    ((c .before .before .before .before .splice .ensures ∙ over-zeros recordsRoom _) i)
+    ((c .before .splice2 .ensures ∙ over-zeros stepsRoom _) i)
 
 pub respliced-spec : {M : Type 1} → statement M
 respliced-spec =

@@ -1,9 +1,8 @@
 -- `admission::rising::slots_needed` meets its contract: the sum is that of the flows passed. Assumes nothing.
-use Prim.Native.Nat.{ℕ, suc, _+_, _-_, _*_, _≤_, _<_}
-use mathlib.Core.Path.{_≡_, refl, _∙_, ap, ap₂}
-use borrow.Author.Needs.{needs}
+use Prim.Native.Nat.{ℕ, _+_, _-_, _*_, _≤_}
+use mathlib.Core.Path.{_≡_, _∙_, ap}
 use denote.Ref.{now}
-use native.Mathlib.Nat.{mul-le-mul, add-zero, add-assoc}
+use native.Mathlib.Nat.{mul-le-mul, add-assoc}
 use native.Mathlib.Numerals.{add-one}
 use native.Mathlib.Omega.{arith}
 use lib.ListN.{getD}
@@ -14,9 +13,6 @@ use Rattle.trade.proofs.Sums.{sum-next}
 use Rattle.admission.specs.Terms.{neededIn}
 use Rattle.admission.proofs.rising.slots_needed.Statement.{statement}
 use Rattle.admission.proofs.rising.slots_needed.Tie as tie
-use Rattle.admission.proofs.rising.slots_needed.Reads as reads
-use Rattle.admission.proofs.rising.slots_needed.Lts as lts
-use Rattle.admission.proofs.rising.instances.Reads as instances-reads
 
 -- the most that one flow above adds
 abbrev most : ℕ
@@ -31,28 +27,22 @@ Inv-loop len above figures periods carries r sum₀ h₀ sum h =
 abbrev μ-loop : tie.MeasureT-loop
 μ-loop len above figures periods carries r sum₀ h₀ sum h = above - h
 
--- src/rising.rt:32:5
 loop-holds : tie.Need-loop-holds Inv-loop μ-loop
 unfolding neededIn sumTo
 loop-holds c = (omega arith, omega arith, omega arith)
 
--- src/rising.rt:33:29
 mul-instances : tie.Need-mul-instances Inv-loop μ-loop
 mul-instances c = omega arith
 
--- src/rising.rt:33:29
 element-copy-out-instances : tie.Need-element-copy-out-instances Inv-loop μ-loop
 element-copy-out-instances c = omega arith
 
--- src/rising.rt:33:41
 mul-instances-2 : tie.Need-mul-instances-2 Inv-loop μ-loop
 mul-instances-2 c = omega arith
 
--- src/rising.rt:33:41
 element-copy-out-instances-2 : tie.Need-element-copy-out-instances-2 Inv-loop μ-loop
 element-copy-out-instances-2 c = omega arith
 
--- src/rising.rt:33:16
 instances-requires : tie.Need-instances-requires Inv-loop μ-loop
 instances-requires c κs =
     let s = c .before .before .before .before in
@@ -65,11 +55,9 @@ instances-requires c κs =
       t .period h (omega arith) .1,
     )
 
--- src/rising.rt:33:55
 mul-sum : tie.Need-mul-sum Inv-loop μ-loop
 mul-sum c = omega arith
 
--- src/rising.rt:33:55
 element-copy-out-sum : tie.Need-element-copy-out-sum Inv-loop μ-loop
 element-copy-out-sum c = omega arith
 
@@ -83,23 +71,18 @@ adds c =
     let t = c .before .before .before .before .before .before .pre .0 in
     mul-le-mul (c .before .instances .ensures .1) (t .figure (c .before .before .before .before .before .loop .h) (omega arith))
 
--- src/rising.rt:33:16
 mul-sum-2 : tie.Need-mul-sum-2 Inv-loop μ-loop
 mul-sum-2 c = omega (arith, adds c)
 
--- src/rising.rt:33:9
 add-sum : tie.Need-add-sum Inv-loop μ-loop
 add-sum c = omega (arith, adds c)
 
--- src/rising.rt:34:9
 add-h : tie.Need-add-h Inv-loop μ-loop
 add-h c = omega arith
 
--- src/rising.rt:32:5
 loop-less : tie.Need-loop-less Inv-loop μ-loop
 loop-less c = omega arith
 
--- src/rising.rt:32:5
 loop-again : tie.Need-loop-again Inv-loop μ-loop
 unfolding neededIn
 loop-again c =
@@ -111,7 +94,6 @@ loop-again c =
       rw (add-one (loop .h), sum-next term (loop .h), loop .inv .2, c .before .instances .ensures .0) (add-assoc (a .len) (sumTo term (loop .h)) (term (loop .h))),
     )
 
--- src/rising.rt:19:1
 returns : tie.Need-returns Inv-loop μ-loop
 returns c =
     let a = c .before .before .args in

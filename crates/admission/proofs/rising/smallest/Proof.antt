@@ -1,16 +1,13 @@
 -- `admission::rising::smallest` meets its contract: no r that was passed is enough. The measure is what is left up to the deadline.
 -- Assumes nothing.
-use Prim.Native.Nat.{ℕ, _+_, _-_, _≤_, _<_}
-use mathlib.Core.Path.{_≡_, sym, _∙_}
+use Prim.Native.Nat.{ℕ, _+_, _-_, _≤_}
+use mathlib.Core.Path.{sym}
 use denote.Ref.{now}
 use native.Mathlib.Omega.{arith}
 use Rattle.admission.specs.Terms.{neededIn}
 use Rattle.admission.proofs.Iteration.{NoneBelow, none-at-first, none-further, found-smallest, found-none, needed-grows}
 use Rattle.admission.proofs.rising.smallest.Statement.{statement}
 use Rattle.admission.proofs.rising.smallest.Tie as tie
-use Rattle.admission.proofs.rising.smallest.Reads as reads
-use Rattle.admission.proofs.rising.smallest.Lts as lts
-use Rattle.admission.proofs.rising.slots_needed.Reads as slots-needed-reads
 
 abbrev Inv-loop : tie.InvT-loop
 Inv-loop len deadline above figures periods carries r₀ r =
@@ -19,17 +16,14 @@ Inv-loop len deadline above figures periods carries r₀ r =
 abbrev μ-loop : tie.MeasureT-loop
 μ-loop len deadline above figures periods carries r₀ r = deadline + 1 - r
 
--- src/rising.rt:53:5
 loop-holds : tie.Need-loop-holds Inv-loop μ-loop
 loop-holds c = (omega arith, none-at-first _ _ _)
 
--- src/rising.rt:54:13
 slots-needed-requires : tie.Need-slots-needed-requires Inv-loop μ-loop
 slots-needed-requires c κs =
     let s = c .before .before in
     (s .pre .0, s .pre .2, omega (arith, s .pre .1), omega (arith, s .pre .3))
 
--- src/rising.rt:56:13
 returns : tie.Need-returns Inv-loop μ-loop
 returns c =
     let a = c .before .before .before .before .args in
@@ -40,11 +34,9 @@ returns c =
     (rw (← c .before .slots-needed .ensures) (c .if1 .taken))
     (loop .inv .1))
 
--- src/rising.rt:53:5
 loop-less : tie.Need-loop-less Inv-loop μ-loop
 loop-less c = omega arith
 
--- src/rising.rt:53:5
 loop-again : tie.Need-loop-again Inv-loop μ-loop
 loop-again c =
     let a = c .before .before .before .before .args in
@@ -56,11 +48,9 @@ loop-again c =
           none-further needed (a .len) (a .deadline) grows (loop .r) (loop .inv .1) j (rw (← c .before .slots-needed .ensures) h),
     )
 
--- src/rising.rt:60:5
 add-result : tie.Need-add-result Inv-loop μ-loop
 add-result c = omega (arith, c .before .before .pre .3)
 
--- src/rising.rt:41:1
 returns-2 : tie.Need-returns-2 Inv-loop μ-loop
 returns-2 c =
     let a = c .before .before .args in

@@ -1,4 +1,4 @@
--- `admission::check::check` meets its contract: what reading refuses is refused, and else the bounds decide. Assumes nothing.
+-- `admission::acceptance::check` meets its contract: what reading refuses is refused, and else the bounds decide. Assumes nothing.
 use borrow.Author.Needs.{needs}
 use Prim.Native.Nat.{ℕ}
 use mathlib.Core.Path.{_≡_, _∙_, ap}
@@ -12,26 +12,15 @@ use Rattle.book.specs.declared.parts.Opened.{Opened}
 use Rattle.book.proofs.Opening.{done-lies, open-frame}
 use Rattle.admission.proofs.Checking.{checks-refused, checks-bounded, said-bounded}
 use Rattle.admission.proofs.Opened.{book-formed}
-use Rattle.admission.proofs.check.check.Statement.{statement}
-use Rattle.admission.proofs.check.check.Tie as tie
-use Rattle.admission.proofs.check.check.Reads as reads
-use Rattle.admission.proofs.check.check.Lts as lts
-use Rattle.admission.proofs.bounds.bounds_of.Reads as bounds-of-reads
-use Rattle.admission.proofs.bounds.refused.Reads as refused-reads
-use Rattle.book.proofs.parts.open_book.Reads as open-book-reads
-use Rattle.book.proofs.parts.records_of.Reads as records-of-reads
-use Rattle.book.proofs.parts.rows_of.Reads as rows-of-reads
-use Rattle.book.proofs.parts.steps_of.Reads as steps-of-reads
+use Rattle.admission.proofs.acceptance.check.Statement.{statement}
+use Rattle.admission.proofs.acceptance.check.Tie as tie
 
--- src/check.rt:14:9
 open-book-requires : tie.Need-open-book-requires
 open-book-requires c κs = search needs
 
--- src/check.rt:16:9
 refused-requires : tie.Need-refused-requires
 refused-requires c κs = search needs
 
--- src/check.rt:16:9
 returns : tie.Need-returns
 unfolding openedOf
 returns c =
@@ -49,19 +38,15 @@ framed c = open-frame (now (c .before .before .before .before .before .args .boo
 lies : (c : tie.After-f) → Lies (now (c .before .before .before .before .before .args .book)) (c .before .before .before .open-book .result .frame)
 lies c = rw (framed c .1) (done-lies (now (c .before .before .before .before .before .args .book)) (framed c .0))
 
--- src/check.rt:21:9
 rows-of-requires : tie.Need-rows-of-requires
 rows-of-requires c κs = lies c
 
--- src/check.rt:22:9
 records-of-requires : tie.Need-records-of-requires
 records-of-requires c κs = lies (c .before)
 
--- src/check.rt:23:9
 steps-of-requires : tie.Need-steps-of-requires
 steps-of-requires c κs = lies (c .before .before)
 
--- src/check.rt:19:5
 bounds-of-requires : tie.Need-bounds-of-requires
 unfolding frameOf sectionsOf
 bounds-of-requires c κs =
@@ -69,7 +54,6 @@ bounds-of-requires c κs =
     let f = framed (c .before .before .before) in
     rw (f .1, c .before .before .rows-of .ensures, c .before .records-of .ensures, c .steps-of .ensures) (book-formed b (f .0))
 
--- src/check.rt:11:1
 returns-2 : tie.Need-returns-2
 unfolding frameOf sectionsOf
 returns-2 c =

@@ -1,15 +1,17 @@
 -- Bytes with a part exchanged, and what a change of a table owes. Leans on the trade's calls.
-use Prim.Native.Nat.{ℕ, _+_, _-_, _≤_}
+use Prim.Native.Nat.{ℕ, _+_, _-_, _*_, _≤_, _<_}
 use mathlib.Core.Bool.{cond}
 use mathlib.Core.List.{List, [], _∷_, _++_}
 use lib.Dec.{eqb, leb, ltb}
 use lib.ListN.{length, take, drop}
-use Rattle.trade.specs.Limits.{mostFlows}
+use mathlib.Core.Path.{_≡_}
+use Rattle.trade.specs.Limits.{mostFlows, mostSteps, stepBytes}
 use Rattle.trade.specs.Layout.{Sections}
 use Rattle.trade.specs.Facts.{factsOf}
 use Rattle.trade.specs.Answers.{done, refused, isDone, firstOf, noNumber}
 use Rattle.trade.specs.Codes.{code6, code8, code9}
-use Rattle.trade.specs.Calls.{tableRules}
+use Rattle.trade.specs.Calls.{Adding, tableRules}
+use Rattle.trade.specs.Table.{InMemory}
 use Rattle.trade.specs.declared.answer.Answer.{Answer}
 use Rattle.trade.specs.declared.flow.Flow.{Flow}
 use Rattle.book.specs.Records.{misfit}
@@ -47,3 +49,12 @@ mayRemove t place =
 -- the rules on the new table
 unfoldable pub newRules : List (Sections → Answer)
 newRules = (λ t. code6 (factsOf t)) ∷ (λ t. code8 (factsOf t)) ∷ (λ t. code9 (factsOf t)) ∷ []
+
+-- a table that has passed, with room for a newcomer at a place, whose L is in its range and whose step places are all there
+pub record Grows (a : Adding) : Type 0 where
+  pub memory : InMemory (a .table)
+  pub passed : firstOf tableRules noNumber (a .table) .code ≡ 0
+  pub room : a .table .flows < mostFlows
+  pub place : a .place ≤ a .table .flows
+  pub len : a .flow .len ≤ mostSteps
+  pub plan : length (a .plan) ≡ stepBytes * mostSteps

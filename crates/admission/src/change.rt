@@ -5,14 +5,15 @@ ghost use lib.ListN.{length, take};
 ghost use Rattle.trade.specs.Limits.{rowBytes, mostNodes, mostFlows};
 ghost use Rattle.trade.specs.Bytes.{over, padded};
 ghost use Rattle.trade.specs.Layout.{sections};
-ghost use Rattle.trade.specs.Table.{InMemory, rowsRoom, recordsRoom, stepsRoom};
+ghost use Rattle.trade.specs.Table.{InMemory, tableOf, rowsRoom, recordsRoom, stepsRoom};
 ghost use Rattle.trade.specs.Answers.{firstOf, noNumber};
-ghost use Rattle.trade.specs.Calls.{recordOf};
-ghost use Rattle.admission.specs.Change.{spliced, cutOpen, Cuts, mayAdd, mayRemove, newRules};
+ghost use Rattle.trade.specs.Calls.{recordOf, withFlow};
+ghost use Rattle.admission.specs.Change.{spliced, cutOpen, Cuts, mayAdd, mayRemove, newRules, Grows};
 ghost use Rattle.book.specs.Table.{sectionsIn};
 use crate::bounds::bounds_of;
 use book::records::is_misfit;
 use book::records::records_answer;
+use book::records::steps_before;
 use book::steps::steps_answer;
 use book::table::Table;
 use book::table::table_answer;
@@ -170,4 +171,41 @@ fn new_answer<'a>(
         return stepped;
     }
     bounds_of(flows, rows, records, steps).answer
+}
+
+// The table with a flow put in at a place: its record, and the L steps of its plan.
+fn grown<'a>(
+    nodes: u8,
+    flows: u8,
+    rows: &'a [u8],
+    records: &'a [u8],
+    steps: &'a [u8],
+    place: usize,
+    flow: Flow,
+    plan: &[u8],
+) -> Table
+    requires { ⌜ Grows (record { table = sections nodes flows (now rows) (now records) (now steps); place = place; flow = flow; plan = now plan }) ⌝ }
+    ensures { λ r. ⌜ sectionsIn r
+        ≡ tableOf (withFlow (record { table = sections nodes flows (now (rows .entry)) (now (records .entry)) (now (steps .entry)); place = place; flow = flow; plan = now (plan .entry) })) ⌝ }
+{
+    let at = Flow::RECORD_BYTES * place;
+    let end = Flow::RECORD_BYTES * (flows as usize);
+    let first = Plan::STEP_BYTES * steps_before(records, place);
+    let last = Plan::STEP_BYTES * steps_before(records, flows as usize);
+    let size = Plan::STEP_BYTES * (flow.len as usize);
+    respliced(
+        nodes,
+        flows + 1,
+        rows,
+        records,
+        steps,
+        Cut { at, from: at, end },
+        Cut {
+            at: first,
+            from: first,
+            end: last,
+        },
+        &record_bytes(flow),
+        &plan[..size],
+    )
 }

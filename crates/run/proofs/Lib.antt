@@ -1,0 +1,3 @@
+-- Laws that the proofs of this crate's functions cite.
+pub mod Turning
+pub mod Places

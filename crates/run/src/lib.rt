@@ -1,0 +1,5 @@
+// Runs of a table: started, and advanced by one slot at a time.
+pub mod area;
+pub mod release;
+pub mod slot;
+pub mod writer;

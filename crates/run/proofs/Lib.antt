@@ -1,3 +1,4 @@
 -- Laws that the proofs of this crate's functions cite.
 pub mod Turning
 pub mod Places
+pub mod Choosing

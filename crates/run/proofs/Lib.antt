@@ -2,3 +2,5 @@
 pub mod Turning
 pub mod Places
 pub mod Choosing
+pub mod Refusing
+pub mod Prefix

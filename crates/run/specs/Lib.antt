@@ -2,3 +2,4 @@
 pub mod States
 pub mod Turns
 pub mod Slots
+pub mod Refusals

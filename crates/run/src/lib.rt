@@ -1,5 +1,6 @@
 // Runs of a table: started, and advanced by one slot at a time.
 pub mod area;
+pub mod refusals;
 pub mod release;
 pub mod slot;
 pub mod writer;

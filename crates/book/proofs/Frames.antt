@@ -3,12 +3,12 @@
 use Prim.Native.Nat.{ℕ, _+_, _-_, _*_, _≤_, _<_}
 use mathlib.Core.Path.{_≡_, refl, sym, _∙_, ap, ap₂}
 use mathlib.Core.Bool.{Bool, true, false, cond, not, _||_}
-use mathlib.Core.List.{List, [], _∷_}
+use mathlib.Core.List.{List, []}
 use native.Mathlib.Omega.{arith}
-use lib.Dec.{eqb, ltb}
+use lib.Dec.{ltb}
 use lib.ListN.{length, take, drop, length-take, length-drop}
 use native.Mathlib.Nat.{min-eq-left}
-use borrow.Author.Tests.{eqb-true, eq-eqb, ne-eqb, ltb-false, lt-ltb, le-ltb, not-true, not-false}
+use borrow.Author.Tests.{eqb-true, eq-eqb, ne-eqb, ltb-false, lt-ltb, le-ltb, not-false}
 use Rattle.trade.specs.Limits.{mostNodes, mostFlows, rowBytes, recordBytes, stepBytes, trailerBytes}
 use Rattle.trade.specs.Bytes.{part}
 use Rattle.trade.specs.Layout.{trailer, rowsDistance, recordsDistance, stepsDistance, nodeCount, flowCount, field, sectionsOf}
@@ -21,6 +21,7 @@ use Rattle.trade.specs.Calls.{bookRules, readAnswer}
 use Rattle.trade.specs.declared.answer.Answer.{Answer}
 use Rattle.trade.proofs.First.{or-false}
 use Rattle.trade.proofs.Answers.{firstOf-rule, firstOf-pass, firstOf-refuse, given-true, given-false}
+use Rattle.trade.proofs.Valid.{outside-false}
 use Rattle.book.proofs.OwnSections.{code5-rows, code6-records, code8-steps}
 use Rattle.book.specs.Frame.{trailerIn, astray, trailerAnswer, frameBy, frameOf, noFrame, Lies, sectionRules, openedOf}
 use Rattle.book.specs.declared.parts.Frame.{Frame}
@@ -165,10 +166,7 @@ chain-done false false false e = (refl, refl)
 
 -- a number that is not outside a range is in it
 pub inside : (low high v : ℕ) → outside low high v ≡ false → (low ≤ v) × (v ≤ high)
-unfolding outside
-inside low high v e =
-    let p = or-false (ltb v low) (ltb high v) e in
-    (ltb-false v low (p .0), ltb-false high v (p .1))
+inside low high v e = let w = outside-false low high v e in (w .least, w .most)
 
 -- what a trailer says that passes
 pub record InOrder (t : Trailer) (len : ℕ) : Type 0 where

@@ -7,3 +7,5 @@ pub mod OwnSections
 pub mod Frames
 pub mod Opening
 pub mod Pasting
+pub mod Writing
+pub mod Unique

@@ -1,9 +1,6 @@
 -- Each public function's contract leaves one result: of two results that meet it on the same arguments, one is the other. The contracts
 -- are those that the check reads in the code, `Post`. Assumes nothing.
-use Prim.Native.Nat.{ℕ}
-use mathlib.Core.Path.{_≡_, sym, _∙_}
-use mathlib.Core.List.{List}
-use borrow.Fn.Kinds.{PK, RK, Out}
+use Rattle.trade.proofs.Unique.{OneResult, one-result}
 use Rattle.plans.proofs.steps.step_at.Kinds as step-at-kinds
 use Rattle.plans.proofs.steps.step_at.Reads as step-at
 use Rattle.plans.proofs.conflict.disturbs.Kinds as disturbs-kinds
@@ -19,31 +16,23 @@ use Rattle.plans.proofs.grants.GrantSet.clashes.Reads as clashes
 use Rattle.plans.proofs.grants.GrantSet.with.Kinds as with-kinds
 use Rattle.plans.proofs.grants.GrantSet.with.Reads as with
 
--- a contract, over its parameters' and its result's kinds, leaves one result
-abbrev pub OneResult : (n : ℕ) (ps : List (PK n)) (k : RK n) → Out n ps k → Type 0
-OneResult n ps k Post = (κs : _) (a : _) (r r' : _) (s s' : _) → Post κs a r s → Post κs a r' s' → r ≡ r'
-
--- an equation leaves one
-one : {A : Type 0} {x r r' : A} → r ≡ x → r' ≡ x → r ≡ r'
-one p q = p ∙ sym q
-
 pub step-at-unique : OneResult 1 step-at-kinds.ps step-at-kinds.r step-at.Post
-step-at-unique κs a r r' s s' p q = one p q
+step-at-unique κs a r r' s s' p q = one-result p q
 
 pub disturbs-unique : OneResult 1 disturbs-kinds.ps disturbs-kinds.r disturbs.Post
-disturbs-unique κs a r r' s s' p q = one p q
+disturbs-unique κs a r r' s s' p q = one-result p q
 
 pub conflict-unique : OneResult 1 conflict-kinds.ps conflict-kinds.r conflict.Post
-conflict-unique κs a r r' s s' p q = one p q
+conflict-unique κs a r r' s s' p q = one-result p q
 
 pub interference-unique : OneResult 3 interference-kinds.ps interference-kinds.r interference.Post
-interference-unique κs a r r' s s' p q = one p q
+interference-unique κs a r r' s s' p q = one-result p q
 
 pub empty-unique : OneResult 0 empty-kinds.ps empty-kinds.r empty.Post
-empty-unique κs a r r' s s' p q = one (p .exact) (q .exact)
+empty-unique κs a r r' s s' p q = one-result (p .exact) (q .exact)
 
 pub clashes-unique : OneResult 1 clashes-kinds.ps clashes-kinds.r clashes.Post
-clashes-unique κs a r r' s s' p q = one (p .exact) (q .exact)
+clashes-unique κs a r r' s s' p q = one-result (p .exact) (q .exact)
 
 pub with-unique : OneResult 1 with-kinds.ps with-kinds.r with.Post
-with-unique κs a r r' s s' p q = one (p .exact) (q .exact)
+with-unique κs a r r' s s' p q = one-result (p .exact) (q .exact)

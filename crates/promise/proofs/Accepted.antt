@@ -2,7 +2,6 @@
 use Prim.Native.Nat.{ℕ, _<_}
 use mathlib.Core.Path.{_≡_, _∙_}
 use mathlib.Core.List.{List}
-use native.Mathlib.Omega.{arith}
 use borrow.Author.Tests.{eq-eqb}
 use Rattle.trade.specs.Limits.{mostFlows}
 use Rattle.trade.specs.First.{listTo}
@@ -12,7 +11,7 @@ use Rattle.trade.specs.Bound.{bound}
 use Rattle.trade.specs.Answers.{isDone, noNumber}
 use Rattle.trade.specs.Calls.{bookRules, checkRules, checkAnswer, checkOf, boundsOf}
 use Rattle.trade.specs.Demands.{Done, planner, reported}
-use Rattle.trade.proofs.Sums.{length-listTo, getD-listTo}
+use Rattle.trade.proofs.Sums.{getD-listTo}
 use Rattle.trade.proofs.Bytes.{byte-padded}
 use Rattle.trade.proofs.Answers.{Passed, passed-first, firstOf-passed}
 use Rattle.trade.proofs.Valid.{Valid, book-valid, check-bounds}
@@ -36,7 +35,7 @@ module _ (b : List ℕ) (accepted : Done (planner .check b .answer)) where
   unfolding planner checkOf boundsOf isDone
   reported-bound l h =
       rw (eq-eqb (checkAnswer b .code) 0 accepted)
-      (byte-padded mostFlows (listTo (bound (said b)) (said b .flows)) l (omega (arith, length-listTo (bound (said b)) (said b .flows)))
+      (byte-padded mostFlows (listTo (bound (said b)) (said b .flows)) l
       ∙ getD-listTo (bound (said b)) (said b .flows) l h)
 
   -- the bounds are bounds, each with the deadlines as carry-in

@@ -2,8 +2,11 @@
 pub mod Meets
 -- Demand 1
 pub mod Refusals
--- Demand 3
+-- Demand 2
 pub mod Accepted
+pub mod Exact
+pub mod Tables
+-- Demand 3
 pub mod Slots
 pub mod Promise
 -- The empty programs

@@ -5,7 +5,7 @@ use mathlib.Core.Path.{_≡_, sym, _∙_, ap}
 use mathlib.Core.Bool.{false}
 use mathlib.Core.List.{List, [], _∷_, _++_, append-assoc}
 use native.Mathlib.Omega.{arith}
-use lib.Dec.{eqb, leb, ltb}
+use lib.Dec.{eqb, leb}
 use lib.ListN.{length}
 use borrow.Author.Tests.{eq-eqb, ne-eqb, lt-ltb, le-ltb, leb-true}
 use Rattle.trade.specs.Limits.{mostFlows, endOfClock, areaBytes, grantBytes}
@@ -21,6 +21,7 @@ use Rattle.trade.specs.Calls.{Starting, Advancing, Advanced, bookRules, startAn
 use Rattle.trade.specs.Demands.{Done, Lent, Ready, planner, areaBefore, inSlot}
 use Rattle.trade.proofs.Bytes.{length-over, over-over}
 use Rattle.trade.proofs.Answers.{Passed, passed-none, passed-more, passed-append, passed-on, passed-done, passed-refused, givenFirst-none, given-false, given-true}
+use Rattle.trade.proofs.Calls.{code13-passes}
 use Rattle.trade.proofs.Agree.{Agree, agree-granted, agree-grants, agree-on}
 use Rattle.trade.proofs.Area.{length-area, area-unused, area-agrees, agree-area}
 use Rattle.response.proofs.Cases.{by-test, by-order}
@@ -61,12 +62,6 @@ fromClock = (λ a. code12 (stateIn (a .area))) ∷ (λ a. code11 (said (a .book)
 rules-split : (a : Advancing) → advanceAnswer a ≡ firstOf (beforeClock ++ fromClock) (λ x. length (flowsGranted x)) a
 unfolding advanceAnswer beforeClock fromClock
 rules-split a = rw append-assoc
-
--- memory that is long enough passes code 13
-code13-passes : (needed : ℕ) (memory : List ℕ) → needed ≤ length memory → code13 needed memory .code ≡ 0
-unfolding code13
-code13-passes needed memory h =
-    ap (λ (a : Answer). a .code) (given-false 13 (ltb (length memory) needed) 0 (le-ltb (length memory) needed h))
 
 module _ (r : Lent) (ready : Ready planner r) where
   -- START is done

@@ -8,7 +8,7 @@ use mathlib.Core.Logic.{_⊎_, inl, inr, ⊎-elim}
 use lib.Dec.{eqb}
 use borrow.Author.Tests.{eqb-true, eqb-false, eq-eqb, ne-eqb}
 use native.Mathlib.Omega.{arith}
-use Rattle.trade.proofs.First.{bool-cases, some-intro, some-none, some-false, first-unique}
+use Rattle.trade.proofs.First.{bool-cases, some-intro, some-none, some-false, some-cong, first-unique, first-cong}
 use Rattle.trade.specs.First.{first, some}
 use Rattle.trade.specs.Answers.{done, refused, isDone, given, givenFirst, firstOf, on, noNumber}
 use Rattle.trade.specs.declared.answer.Answer.{Answer}
@@ -72,6 +72,11 @@ unfolding on
 passed-on look passed-none = passed-none
 passed-on look (passed-more e p) = passed-more e (passed-on look p)
 
+pub passed-look : {A B : Type 0} (look : B → A) {x : B} (rules : List (A → Answer)) → Passed x (on look rules) → Passed (look x) rules
+unfolding on
+passed-look look [] p = passed-none
+passed-look look (rule ∷ rules) p = passed-more (passed-head p) (passed-look look rules (passed-tail p))
+
 -- a call that is done passed every rule, and one that passed every rule is done
 pub firstOf-passed : {A : Type 0} (rules : List (A → Answer)) (number : A → ℕ) (x : A) → firstOf rules number x .code ≡ 0 → Passed x rules
 unfolding isDone
@@ -130,6 +135,11 @@ pub givenFirst-none : (code : ℕ) (bad : ℕ → Bool) (n : ℕ) → ((j : ℕ)
 unfolding givenFirst given
 givenFirst-none code bad n before = rw (some-none bad n before)
 
+-- tests that agree below n give the same code
+pub givenFirst-same : (code : ℕ) (bad other : ℕ → Bool) (n m : ℕ) → n ≡ m → ((j : ℕ) → j < n → bad j ≡ other j) → givenFirst code bad n ≡ givenFirst code other m
+unfolding givenFirst
+givenFirst-same code bad other n m e same = rw (some-cong bad other n same, first-cong bad other n same, e)
+
 -- and a code that is given by one condition
 pub given-true : (code : ℕ) (test : Bool) (number : ℕ) → test ≡ true → given code test number ≡ refused code number
 unfolding given
@@ -161,3 +171,20 @@ firstOf-last rule x plain =
     (λ (e : eqb (rule x .code) 0 ≡ true). firstOf-rule rule [] noNumber x ∙ rw e (sym (plain (eqb-true (rule x .code) 0 e))))
     (λ (e : eqb (rule x .code) 0 ≡ false). firstOf-rule rule [] noNumber x ∙ rw e)
     (bool-cases (eqb (rule x .code) 0))
+
+-- rules on a part of what is handed, and then more: theirs is the answer if they refuse, and else it is left to those after them
+pub firstOf-on :
+    {A B : Type 0} (look : B → A) (rules : List (A → Answer)) (more : List (B → Answer)) (number : B → ℕ) (x : B)
+    → firstOf (on look rules ++ more) number x
+    ≡ cond (isDone (firstOf rules noNumber (look x))) (firstOf more number x) (firstOf rules noNumber (look x))
+unfolding on isDone firstOf
+firstOf-on look [] more number x = refl
+firstOf-on look (rule ∷ rules) more number x =
+    ⊎-elim
+    (λ (e : isDone (rule (look x)) ≡ true).
+    firstOf-rule (λ y. rule (look y)) (on look rules ++ more) number x
+    ∙ rw (e, firstOf-on look rules more number x, firstOf-rule rule rules noNumber (look x), e))
+    (λ (e : isDone (rule (look x)) ≡ false).
+    firstOf-rule (λ y. rule (look y)) (on look rules ++ more) number x
+    ∙ rw (e, firstOf-rule rule rules noNumber (look x), e, e))
+    (bool-cases (isDone (rule (look x))))

@@ -1,50 +1,22 @@
 -- Bytes before the book bear on nothing: in front of a slice that passes codes 1 to 4, any bytes leave every call's answer, and all
--- that it returns or leaves in lent memory, the same. Leans on Answers. Assumes nothing.
-use Prim.Native.Nat.{ℕ, zero, suc, _+_, _-_, _*_, _≤_, _<_}
-use mathlib.Core.Path.{_≡_, refl, sym, _∙_, ap, ap₂, subst}
-use mathlib.Core.Bool.{Bool, true, false, cond, not, _||_}
-use mathlib.Core.List.{List, [], _∷_, _++_}
+-- that it returns or leaves in lent memory, the same. Leans on Whole. Assumes nothing.
+use Prim.Native.Nat.{ℕ, _+_, _-_, _*_, _≤_}
+use mathlib.Core.Path.{_≡_, refl, ap}
+use mathlib.Core.List.{List, _++_}
 use native.Mathlib.Omega.{arith}
-use lib.Dec.{eqb, ltb}
 use lib.ListN.{length, take, drop, length-append}
 use lib.Seq.{drop-append-add}
-use borrow.Author.Tests.{ltb-true, ltb-false, le-ltb, eqb-true, not-false}
+use borrow.Author.Tests.{le-ltb}
 use Rattle.trade.specs.Limits.{rowBytes, recordBytes, trailerBytes, grantBytes}
 use Rattle.trade.specs.Bytes.{part}
-use Rattle.trade.specs.Layout.{Sections, trailer, rowsDistance, recordsDistance, stepsDistance, nodeCount, flowCount, sectionsOf}
+use Rattle.trade.specs.Layout.{trailer, rowsDistance, recordsDistance, stepsDistance, nodeCount, flowCount, sectionsOf}
 use Rattle.trade.specs.Facts.{Facts, factsOf, said}
-use Rattle.trade.specs.Table.{stepsDistanceOf, tableOf, emptyTable}
 use Rattle.trade.specs.Answers.{noNumber}
 use Rattle.trade.specs.Area.{stateIn}
 use Rattle.trade.specs.Codes.{code1, code2, code3, code4, code5, code6, code7, code8, code9, code10, code11, code13}
 use Rattle.trade.specs.Calls.{bookRules, checkRules, readAnswer, checkAnswer, startAnswer, advanceAnswer, readOf, checkOf, startOf, advanceOf, Starting, Advancing, flowsGranted, grantsIn, nextArea}
-use Rattle.trade.specs.declared.answer.Answer.{Answer}
-use Rattle.trade.proofs.First.{bool-cases, not-both, or-false}
-use Rattle.trade.proofs.Answers.{Same, same-none, same-more, same-append, same-on, firstOf-same, given-passed}
-
--- what codes 1 and 4 leave of a slice that passes them: the trailer is there, and the three sections lie in the slice
-pub record Framed (b : List ℕ) : Type 0 where
-  pub trailer : trailerBytes ≤ length b
-  pub rows : rowsDistance b ≤ length b
-  pub records : recordsDistance b ≤ length b
-  pub steps : stepsDistance b ≤ length b
-
-pub framed : (b : List ℕ) → code1 b .code ≡ 0 → code4 b .code ≡ 0 → Framed b
-unfolding code1 code4
-framed b e1 e4 =
-    let p = or-false _ _ (given-passed 3 _ 0 e4) in
-    let q = or-false _ _ (p .0) in
-    let r = or-false _ _ (q .0) in
-    let s = or-false _ _ (r .0) in
-    let rows : rowsDistance b ≡ recordsDistance b + rowBytes * nodeCount b = eqb-true _ _ (not-false _ (s .0)) in
-    let records : recordsDistance b ≡ stepsDistance b + recordBytes * flowCount b = eqb-true _ _ (not-false _ (s .1)) in
-    let within : rowsDistance b ≤ length b = ltb-false _ _ (p .1) in
-    record {
-      trailer = ltb-false _ _ (given-passed 0 _ 0 e1);
-      rows = within;
-      records = omega arith;
-      steps = omega arith;
-    }
+use Rattle.trade.proofs.Answers.{Same, same-none, same-more, same-append, same-on, firstOf-same}
+use Rattle.trade.proofs.Whole.{Framed}
 
 -- the same place, counted back from the end
 drop-front : (front b : List ℕ) (d : ℕ) → d ≤ length b → drop (length (front ++ b) - d) (front ++ b) ≡ drop (length b - d) b

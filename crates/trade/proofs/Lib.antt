@@ -12,7 +12,12 @@ pub mod Area
 pub mod Grants
 pub mod Answers
 pub mod Valid
+pub mod Alike
+pub mod Used
+pub mod Whole
 pub mod Calls
 pub mod Front
+pub mod RoundTrip
 pub mod Unique
+pub mod Numbers
 pub mod Cases

@@ -1,32 +1,44 @@
--- The contract of every public function of this crate leaves one possible result for each input. Leans on nothing. Assumes nothing.
+-- What it is for a contract to leave one result, and that the contract of every public function of this crate does. The contracts are
+-- those that the check reads in the code, `Post`. Assumes nothing.
 use Prim.Native.Nat.{ℕ}
 use mathlib.Core.Path.{_≡_, sym, _∙_}
-use Rattle.trade.specs.Limits.{limitsOf}
-use Rattle.trade.specs.Answers.{done, refused, packedOf}
-use Rattle.trade.specs.Run.{idleOf, emptyRun}
-use Rattle.trade.specs.declared.answer.Answer.{Answer}
-use Rattle.trade.specs.declared.limits.Limits.{Limits}
-use Rattle.trade.specs.declared.run.Progress.{Progress}
-use Rattle.trade.specs.declared.run.Run.{Run}
+use mathlib.Core.List.{List}
+use borrow.Fn.Kinds.{PK, RK, Out}
+use Rattle.trade.proofs.answer.Answer.done.Kinds as done-kinds
+use Rattle.trade.proofs.answer.Answer.done.Reads as done
+use Rattle.trade.proofs.answer.Answer.refused.Kinds as refused-kinds
+use Rattle.trade.proofs.answer.Answer.refused.Reads as refused
+use Rattle.trade.proofs.answer.Answer.packed.Kinds as packed-kinds
+use Rattle.trade.proofs.answer.Answer.packed.Reads as packed
+use Rattle.trade.proofs.run.Progress.idle.Kinds as idle-kinds
+use Rattle.trade.proofs.run.Progress.idle.Reads as idle
+use Rattle.trade.proofs.run.Run.empty.Kinds as empty-kinds
+use Rattle.trade.proofs.run.Run.empty.Reads as empty
+use Rattle.trade.proofs.limits.all_limits.Kinds as all-limits-kinds
+use Rattle.trade.proofs.limits.all_limits.Reads as all-limits
 
--- results that are both equal to what a definition gives are equal
-pub one-result : {A : Type 0} {r s given : A} → r ≡ given → s ≡ given → r ≡ s
+-- of two results that meet a contract on the same arguments, over its parameters' and its result's kinds, one is the other
+abbrev pub OneResult : (n : ℕ) (ps : List (PK n)) (k : RK n) → Out n ps k → Type 0
+OneResult n ps k Post = (κs : _) (a : _) (r r' : _) (s s' : _) → Post κs a r s → Post κs a r' s' → r ≡ r'
+
+-- an equation leaves one
+pub one-result : {A : Type 0} {x r r' : A} → r ≡ x → r' ≡ x → r ≡ r'
 one-result p q = p ∙ sym q
 
-pub done-unique : (number : ℕ) (r s : Answer) → r ≡ done number → s ≡ done number → r ≡ s
-done-unique number r s p q = one-result p q
+pub done-unique : OneResult 0 done-kinds.ps done-kinds.r done.Post
+done-unique κs a r r' s s' p q = one-result p q
 
-pub refused-unique : (code number : ℕ) (r s : Answer) → r ≡ refused code number → s ≡ refused code number → r ≡ s
-refused-unique code number r s p q = one-result p q
+pub refused-unique : OneResult 0 refused-kinds.ps refused-kinds.r refused.Post
+refused-unique κs a r r' s s' p q = one-result p q
 
-pub packed-unique : (a : Answer) (r s : ℕ) → r ≡ packedOf a → s ≡ packedOf a → r ≡ s
-packed-unique a r s p q = one-result p q
+pub packed-unique : OneResult 0 packed-kinds.ps packed-kinds.r packed.Post
+packed-unique κs a r r' s s' p q = one-result p q
 
-pub idle-unique : (len : ℕ) (r s : Progress) → r ≡ idleOf len → s ≡ idleOf len → r ≡ s
-idle-unique len r s p q = one-result p q
+pub idle-unique : OneResult 0 idle-kinds.ps idle-kinds.r idle.Post
+idle-unique κs a r r' s s' p q = one-result p q
 
-pub empty-unique : (r s : Run) → r ≡ emptyRun → s ≡ emptyRun → r ≡ s
-empty-unique r s p q = one-result p q
+pub empty-unique : OneResult 0 empty-kinds.ps empty-kinds.r empty.Post
+empty-unique κs a r r' s s' p q = one-result p q
 
-pub all-limits-unique : (r s : Limits) → r ≡ limitsOf → s ≡ limitsOf → r ≡ s
-all-limits-unique r s p q = one-result p q
+pub all-limits-unique : OneResult 0 all-limits-kinds.ps all-limits-kinds.r all-limits.Post
+all-limits-unique κs a r r' s s' p q = one-result p q

@@ -1,20 +1,22 @@
 -- What a book that passes the rules says: its counts and the fields of its records are within their ranges, no two flows have one
 -- id, and where check passes it every flow has a bound. Leans on Answers and Bound. Assumes nothing.
 use Prim.Native.Nat.{ℕ, _≤_, _<_}
-use mathlib.Core.Path.{_≡_, sym}
+use mathlib.Core.Path.{_≡_, sym, ap}
 use mathlib.Core.Bool.{false}
 use mathlib.Core.Logic.{⊎-elim}
 use mathlib.Core.List.{List}
 use native.Mathlib.Omega.{arith}
 use lib.Dec.{eqb, ltb}
-use borrow.Author.Tests.{ltb-false, eqb-false}
+use borrow.Author.Tests.{ltb-false, le-ltb, eqb-false}
 use Rattle.trade.specs.Limits.{mostNodes, mostFlows, mostId, mostPhase, mostPeriod, mostSteps}
-use Rattle.trade.specs.Facts.{Facts, said}
+use Rattle.trade.specs.Layout.{Sections}
+use Rattle.trade.specs.Facts.{Facts, factsOf, said}
 use Rattle.trade.specs.Bound.{Admissible, bound}
 use Rattle.trade.specs.Codes.{outside, badRecord, code3, code6, code9}
-use Rattle.trade.specs.Calls.{bookRules, checkRules}
+use Rattle.trade.specs.Calls.{bookRules, tableRules, checkRules}
+use Rattle.trade.specs.declared.answer.Answer.{Answer}
 use Rattle.trade.proofs.First.{or-false, lt-or-ge, some-false}
-use Rattle.trade.proofs.Answers.{Passed, passed-head, passed-tail, passed-others, given-passed, givenFirst-passed}
+use Rattle.trade.proofs.Answers.{Passed, passed-head, passed-tail, passed-others, given-passed, given-false, givenFirst-passed}
 use Rattle.trade.proofs.Bound.{bound-admissible, boundless-false}
 
 -- a number within a range
@@ -22,11 +24,22 @@ pub record Within (low high v : ℕ) : Type 0 where
   pub least : low ≤ v
   pub most : v ≤ high
 
-outside-false : (low high v : ℕ) → outside low high v ≡ false → Within low high v
+pub outside-false : (low high v : ℕ) → outside low high v ≡ false → Within low high v
 unfolding outside
 outside-false low high v e =
     let (l, h) = or-false (ltb v low) (ltb high v) e in
     record { least = ltb-false v low l; most = ltb-false high v h }
+
+within-inside : (low high v : ℕ) → Within low high v → outside low high v ≡ false
+unfolding outside
+within-inside low high v w = rw (le-ltb v low (w .least), le-ltb high v (w .most))
+
+-- counts within their limits pass code 3
+pub code3-passes : (f : Facts) → Within 1 mostNodes (f .nodes) → Within 0 mostFlows (f .flows) → code3 f .code ≡ 0
+unfolding code3
+code3-passes f n m =
+    ap (λ (a : Answer). a .code)
+    (given-false 3 _ 0 (rw (within-inside 1 mostNodes (f .nodes) n, within-inside 0 mostFlows (f .flows) m)))
 
 -- a record whose fields are within their ranges, and whose id no earlier record has
 pub record Sound (f : Facts) (i : ℕ) : Type 0 where
@@ -56,16 +69,23 @@ sound f i e =
 
 -- facts that pass codes 3 and 6
 pub record Valid (f : Facts) : Type 0 where
+  pub nodes : Within 1 mostNodes (f .nodes)
   pub flows : f .flows ≤ mostFlows
   pub records : (i : ℕ) → i < f .flows → Sound f i
 
 pub valid : (f : Facts) → code3 f .code ≡ 0 → code6 f .code ≡ 0 → Valid f
 unfolding code3 code6
 valid f e3 e6 =
+    let (n, m) = or-false (outside 1 mostNodes (f .nodes)) (outside 0 mostFlows (f .flows)) (given-passed 2 _ 0 e3) in
     record {
-      flows = outside-false 0 mostFlows (f .flows) (or-false (outside 1 mostNodes (f .nodes)) (outside 0 mostFlows (f .flows)) (given-passed 2 _ 0 e3) .1) .most;
+      nodes = outside-false 1 mostNodes (f .nodes) n;
+      flows = outside-false 0 mostFlows (f .flows) m .most;
       records = λ i h. sound f i (givenFirst-passed 5 (badRecord f) (f .flows) e6 i h);
     }
+
+pub table-valid : (t : Sections) → Passed t tableRules → Valid (factsOf t)
+unfolding tableRules
+table-valid t p = valid (factsOf t) (passed-head p) (passed-head (passed-tail (passed-tail p)))
 
 -- flows of one id are one flow
 pub same-flow : (f : Facts) → Valid f → (i j : ℕ) → i < f .flows → j < f .flows → f .id i ≡ f .id j → i ≡ j

@@ -1,5 +1,5 @@
 -- Numbers in bytes, big-endian, and parts of a slice. Leans on nothing.
-use Prim.Native.Nat.{ℕ, _+_, _-_, _*_, _/_, _%_, _^_}
+use Prim.Native.Nat.{ℕ, _+_, _-_, _*_, _/_, _%_, _^_, _<_}
 use mathlib.Core.Bool.{Bool}
 use mathlib.Core.List.{List, [], _∷_, _++_}
 use lib.Dec.{eqb}
@@ -8,6 +8,10 @@ use lib.ListN.{length, getD, take, drop, replicate}
 -- the byte at a place, 0 past the end
 abbrev pub byte : List ℕ → ℕ → ℕ
 byte bytes at = getD bytes at 0
+
+-- a list of bytes: each is below 256
+abbrev pub Bytes : List ℕ → Type 0
+Bytes bytes = (i : ℕ) → byte bytes i < 256
 
 -- the two bytes from a place on, the first the higher
 unfoldable pub word : List ℕ → ℕ → ℕ

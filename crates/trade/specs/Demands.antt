@@ -6,7 +6,7 @@ use mathlib.Core.Bool.{false}
 use mathlib.Core.List.{List}
 use lib.ListN.{length, getD, take, replicate}
 use Rattle.trade.specs.Limits.{mostFlows, endOfClock, areaBytes, grantBytes}
-use Rattle.trade.specs.Bytes.{byte, word, long, over}
+use Rattle.trade.specs.Bytes.{Bytes, byte, word, long, over}
 use Rattle.trade.specs.Layout.{Sections, rowsDistance, sectionsOf}
 use Rattle.trade.specs.Facts.{Facts, said, stepOf}
 use Rattle.trade.specs.Table.{InMemory, bookOf, tableOf, emptyTable}
@@ -87,6 +87,7 @@ pub record Demand2 (p : Program) : Type 0 where
       → p .read (take (p .write w .answer .number) (p .write w .buffer)) ≡ record { answer = done 0; table = tableOf (w .table) }
   pub read-write :
       (b buffer : List ℕ)
+      → Bytes b
       → length b ≡ rowsDistance b
       → Done (p .read b .answer)
       → length b ≤ length buffer

@@ -1,0 +1,12 @@
+-- Laws that belong to no one function.
+pub mod Ceil
+pub mod Iteration
+pub mod Padded
+pub mod Formed
+pub mod Alike
+pub mod Outcome
+pub mod Opened
+pub mod Checking
+pub mod Monotone
+pub mod Accepts
+pub mod Unique

@@ -1,0 +1,26 @@
+-- What the bound of a flow reads of the k flows above it: a figure, a period and a carry-in for each, in three lists. Leans on the
+-- trade's Bound.
+use Prim.Native.Nat.{ℕ, suc, _+_, _*_, _≤_, _<_}
+use mathlib.Core.Bool.{_&&_}
+use mathlib.Core.List.{List}
+use lib.Dec.{leb}
+use lib.ListN.{getD}
+use Rattle.trade.specs.Limits.{mostFlows, mostSteps, mostPeriod}
+use Rattle.trade.specs.First.{first, sumTo}
+use Rattle.trade.specs.Bound.{instances}
+
+-- the slots that a flow of so many steps needs within R slots
+unfoldable pub neededIn : ℕ → ℕ → List ℕ → List ℕ → List ℕ → ℕ → ℕ
+neededIn len k figures periods carries R =
+    len + sumTo (λ h. instances R (getD carries h 0) (getD periods h 0) * getD figures h 0) k
+
+-- the smallest R from L to D that is at least what is needed within it; D + 1 where there is none
+unfoldable pub smallestIn : (ℕ → ℕ) → ℕ → ℕ → ℕ
+smallestIn needed len deadline = first (λ R. leb len R && leb R deadline && leb (needed R) R) (suc deadline)
+
+-- the three lists hold what a book can say of k flows
+pub record Terms (k : ℕ) (figures periods carries : List ℕ) : Type 0 where
+  pub above : k ≤ mostFlows
+  pub figure : (h : ℕ) → h < k → getD figures h 0 ≤ mostSteps
+  pub period : (h : ℕ) → h < k → (1 ≤ getD periods h 0) × (getD periods h 0 ≤ mostPeriod)
+  pub carry : (h : ℕ) → h < k → getD carries h 0 ≤ mostPeriod

@@ -1,0 +1,117 @@
+// The response bounds of all flows of a book or a table, and code 9.
+ghost use mathlib.Core.Path.{_≡_};
+ghost use Prim.Native.Nat.{ℕ, _+_, _*_, _≤_, _<_};
+ghost use lib.ListN.{length, getD};
+ghost use Rattle.trade.specs.Limits.{stepBytes, mostFlows, mostPeriod};
+ghost use Rattle.trade.specs.First.{listTo};
+ghost use Rattle.trade.specs.Bytes.{part, padded};
+ghost use Rattle.trade.specs.Layout.{field};
+ghost use Rattle.trade.specs.Facts.{factsIn};
+ghost use Rattle.trade.specs.Interference.{interference};
+ghost use Rattle.trade.specs.Bound.{boundBy};
+ghost use Rattle.admission.specs.Formed.{Formed};
+ghost use Rattle.admission.specs.Bounds.{refusedBy, boundedBy};
+use crate::rising::smallest;
+use book::records::len_at;
+use book::records::record_at;
+use book::records::steps_before;
+use plans::interference::interference;
+use trade::Answer;
+use trade::Flow;
+use trade::Plan;
+
+// An answer, and the bounds of the flows with zeros elsewhere; refused, all zeros.
+pub struct Checked {
+    pub answer: Answer,
+    pub bounds: [u16; Flow::MOST],
+}
+
+// A refusal has no bounds.
+pub(crate) fn refused(answer: Answer) -> Checked
+    ensures { λ r. ⌜ r ≡ refusedBy answer ⌝ }
+{
+    Checked {
+        answer,
+        bounds: [0; Flow::MOST],
+    }
+}
+
+// The part of the steps that holds a plan of so many, behind those of the plans before it.
+fn plan_from(steps: &[u8], start: usize, len: usize) -> &[u8]
+    requires { ⌜ stepBytes * (start + len) ≤ length (now steps) ⌝ }
+    ensures { λ r. ⌜ now r ≡ part (stepBytes * start) (stepBytes * len) (now (steps .entry)) ⌝ }
+{
+    let from = Plan::STEP_BYTES * start;
+    let to = from + Plan::STEP_BYTES * len;
+    &steps[from..to]
+}
+
+// The interference of each flow above l on it, zeros elsewhere.
+fn figures_of(rows: &[u8], records: &[u8], steps: &[u8], l: usize) -> [u32; Flow::MOST]
+    requires { ⌜ Formed (l + 1) (now rows) (now records) (now steps) ⌝ }
+    ensures { λ r. ⌜ r ≡ padded mostFlows (listTo (interference (factsIn 0 0 (now (rows .entry)) (now (records .entry)) (now (steps .entry))) l) l) ⌝ }
+{
+    let plan = plan_from(steps, steps_before(records, l), len_at(records, l));
+    let mut figures = [0u32; Flow::MOST];
+    let mut start = 0;
+    let mut h = 0;
+    while h < l {
+        let len = len_at(records, h);
+        figures[h] = interference(rows, plan, plan_from(steps, start, len)) as u32;
+        start += len;
+        h += 1;
+    }
+    figures
+}
+
+// The bound of flow l, by the periods and the carry-in of the flows above it; its deadline + 1 where it has none.
+fn bound_at(
+    rows: &[u8],
+    records: &[u8],
+    steps: &[u8],
+    l: usize,
+    periods: &[u32; Flow::MOST],
+    carries: &[u32; Flow::MOST],
+) -> u32
+    requires { ⌜ Formed (l + 1) (now rows) (now records) (now steps) ⌝ }
+    requires { ⌜ ((h : ℕ) → h < l → getD (now periods) h 0 ≡ field (now records) h 2) ⌝ }
+    requires { ⌜ ((h : ℕ) → h < l → getD (now carries) h 0 ≤ mostPeriod) ⌝ }
+    ensures { λ r. ⌜ r ≡ boundBy (factsIn 0 0 (now (rows .entry)) (now (records .entry)) (now (steps .entry))) (λ h. getD (now (carries .entry)) h 0) l ⌝ }
+{
+    let flow = record_at(records, l);
+    let figures = figures_of(rows, records, steps, l);
+    smallest(
+        flow.len as u32,
+        flow.deadline as u32,
+        l,
+        &figures,
+        periods,
+        carries,
+    )
+}
+
+// The bounds of all flows, or code 9 at the first flow that has none. The carry-in of a flow is its deadline.
+pub fn bounds_of(flows: usize, rows: &[u8], records: &[u8], steps: &[u8]) -> Checked
+    requires { ⌜ Formed flows (now rows) (now records) (now steps) ⌝ }
+    ensures { λ r. ⌜ r ≡ boundedBy (factsIn 0 flows (now (rows .entry)) (now (records .entry)) (now (steps .entry))) ⌝ }
+{
+    let mut bounds = [0u16; Flow::MOST];
+    let mut periods = [0u32; Flow::MOST];
+    let mut carries = [0u32; Flow::MOST];
+    let mut l = 0;
+    while l < flows {
+        let flow = record_at(records, l);
+        let bound = bound_at(rows, records, steps, l, &periods, &carries);
+        if (flow.deadline as u32) < bound {
+            return refused(Answer::refused(9, l as u64));
+        }
+        bounds[l] = bound as u16;
+        periods[l] = flow.period as u32;
+        carries[l] = flow.deadline as u32;
+        l += 1;
+    }
+    Checked {
+        answer: Answer::done(0),
+        bounds,
+    }
+}

@@ -33,9 +33,10 @@ use Rattle.plans.specs.Grants.{Holds, Fresh, clashesWith, Grown}
 use Rattle.plans.specs.declared.grants.GrantSet.{GrantSet}
 use Rattle.book.specs.Written.{pastedAt}
 use Rattle.book.proofs.Pasting.{pasted-next}
+use Rattle.admission.specs.Formed.{Formed}
 use Rattle.run.specs.States.{placeOf, stateOf, bytesOf}
 use Rattle.run.specs.Turns.{releasedAt, instanceBy, doneAfter, turnOf, nextOf, goesNow, grantNow, Room, Turned}
-use Rattle.run.specs.Slots.{Runnable, Ran}
+use Rattle.run.specs.Slots.{Ran}
 use Rattle.run.specs.declared.slot.Turn.{Turn}
 use Rattle.run.specs.declared.slot.Made.{Made}
 use Rattle.run.specs.declared.slot.Taken.{Taken}
@@ -130,13 +131,13 @@ module _ (flows : ℕ) (rows records steps : List ℕ) (firsts : ℕ → ℕ) (r
       }
 
   -- the step that a flow's turn may take
-  module _ (runs : Runnable flows rows records steps) (i : ℕ) (taken : i < flows) where
+  module _ (runs : Formed flows rows records steps) (i : ℕ) (taken : i < flows) where
     plan-room : firstStep facts i + field records i 4 ≤ sumTo (λ k. field records k 4) flows
     unfolding firstStep factsOf
     plan-room = omega (arith, sum-next (λ (k : ℕ). field records k 4) i, sum-le (λ (k : ℕ). field records k 4) (suc i) flows taken)
 
     step-room : (d : ℕ) → d < field records i 4 → stepBytes * (firstStep facts i + d) + 1 < length steps
-    step-room d h = omega (arith, plan-room, runs .plans)
+    step-room d h = omega (arith, plan-room, runs .planned)
 
     step-within : (d : ℕ) → d < field records i 4 → Within rows (stepIn steps (firstStep facts i + d))
     step-within d h = runs .within (firstStep facts i + d) (omega (arith, plan-room))
@@ -150,7 +151,7 @@ module _ (flows : ℕ) (rows records steps : List ℕ) (firsts : ℕ → ℕ) (r
       unfolding turnOf nextOf flowIn
       turn-room room =
           record {
-            len = runs .lens i taken;
+            len = runs .fields i taken .len .1;
             step = λ h. step-room _ h;
             within = λ h. step-within _ h;
             grant = omega (arith, chosen-length lent i places made grants so (omega arith) room, so .count, few i);

@@ -4,8 +4,9 @@ ghost use Prim.Native.Nat.{_*_, _≤_, _<_};
 ghost use lib.ListN.{length, getD};
 ghost use Rattle.trade.specs.Limits.{mostFlows, grantBytes, lastSlot};
 ghost use Rattle.trade.specs.Facts.{factsIn};
+ghost use Rattle.admission.specs.Formed.{Formed};
 ghost use Rattle.run.specs.Turns.{turnOf, Room, Turned};
-ghost use Rattle.run.specs.Slots.{Runnable, Ran};
+ghost use Rattle.run.specs.Slots.{Ran};
 use crate::release::instance_at;
 use crate::release::is_released;
 use crate::writer::write_grant;
@@ -107,7 +108,7 @@ pub fn run_slot(
     run: Run,
     grants: &mut [u8],
 ) -> Outcome
-    requires { ⌜ Runnable flows (now rows) (now records) (now steps) × (grantBytes * flows ≤ length (now grants)) × (run .slot .0 ≤ lastSlot) × (length (run .flows) ≡ mostFlows) ⌝ }
+    requires { ⌜ Formed flows (now rows) (now records) (now steps) × (grantBytes * flows ≤ length (now grants)) × (run .slot .0 ≤ lastSlot) × (length (run .flows) ≡ mostFlows) ⌝ }
     ensures { λ r. ⌜ Ran (factsIn 0 flows (now (rows .entry)) (now (records .entry)) (now (steps .entry))) (λ i. getD (now (firsts .entry)) i 0) run (now (grants .entry)) r (now (grants .exit)) ⌝ }
 {
     let slot = run.slot;

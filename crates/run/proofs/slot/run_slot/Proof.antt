@@ -61,9 +61,9 @@ start-few c =
       arith,
       c .before .before .loop .inv .1,
       ap (λ (w : Flow). w .len) (c .record-at .ensures),
-      sum-most len mostSteps i (λ k h. start .pre .0 .lens k (omega (arith, taken))),
-      start .pre .0 .lens i taken,
-      start .pre .0 .few,
+      sum-most len mostSteps i (λ k h. start .pre .0 .fields k (omega (arith, taken)) .len .1),
+      start .pre .0 .fields i taken .len .1,
+      start .pre .0 .most,
       taken,
     )
 
@@ -97,7 +97,7 @@ array-copy-out-turn-of c = search needs
 -- src/slot.rt:123:13
 turn-of-requires : tie.Need-turn-of-requires Inv-loop μ-loop
 unfolding flowIn
-turn-of-requires c κs = rw (c .before .before .record-at .ensures) (c .before .before .before .before .before .before .before .before .before .before .before .before .pre .0 .periods (c .before .before .before .before .loop .i) (c .before .before .before .loop-test .taken))
+turn-of-requires c κs = rw (c .before .before .record-at .ensures) (c .before .before .before .before .before .before .before .before .before .before .before .before .pre .0 .fields (c .before .before .before .before .loop .i) (c .before .before .before .loop-test .taken) .period .0)
 
 -- src/slot.rt:124:13
 take-turn-requires : tie.Need-take-turn-requires Inv-loop μ-loop
@@ -111,7 +111,7 @@ take-turn-requires c κs =
 
 -- src/slot.rt:128:9
 array-set-from-places : tie.Need-array-set-from-places Inv-loop μ-loop
-array-set-from-places c = omega (arith, c .before .before .before .before .before .before .before .before .before .before .loop-test .taken, c .before .before .before .before .before .before .before .before .before .before .before .before .before .before .before .before .before .before .before .pre .0 .few)
+array-set-from-places c = omega (arith, c .before .before .before .before .before .before .before .before .before .before .loop-test .taken, c .before .before .before .before .before .before .before .before .before .before .before .before .before .before .before .before .before .before .before .pre .0 .most)
 
 -- src/slot.rt:129:18
 cast-start : tie.Need-cast-start Inv-loop μ-loop
@@ -123,7 +123,7 @@ add-start c = omega (arith, start-few (c .before .before .before .before .before
 
 -- src/slot.rt:130:9
 add-i : tie.Need-add-i Inv-loop μ-loop
-add-i c = omega (arith, c .before .before .before .before .before .before .before .before .before .before .before .loop-test .taken, c .before .before .before .before .before .before .before .before .before .before .before .before .before .before .before .before .before .before .before .before .pre .0 .few)
+add-i c = omega (arith, c .before .before .before .before .before .before .before .before .before .before .before .loop-test .taken, c .before .before .before .before .before .before .before .before .before .before .before .before .before .before .before .before .before .before .before .before .pre .0 .most)
 
 -- src/slot.rt:121:5
 loop-less : tie.Need-loop-less Inv-loop μ-loop
@@ -143,7 +143,7 @@ loop-again c =
       rw (add-one (loop .i))
           (chosen-next (a .flows) (now (a .rows)) (now (a .records)) (now (a .steps)) (λ k. getD (now (a .firsts)) k 0) (a .run) (start .pre .0) (loop .i) taken
           (now (a .grants)) (loop .places) (loop .made) (loop .grants) (loop .inv .2) (c .before .before .before .before .before .take-turn .result) _
-          (omega (arith, taken, start .pre .0 .few, loop .inv .2 .size, start .pre .3)) (rw (turning (c .before .before .before .before .before .before .before)) at (c .before .before .before .before .before .take-turn .ensures))),
+          (omega (arith, taken, start .pre .0 .most, loop .inv .2 .size, start .pre .3)) (rw (turning (c .before .before .before .before .before .before .before)) at (c .before .before .before .before .before .take-turn .ensures))),
     )
 
 -- src/slot.rt:134:24

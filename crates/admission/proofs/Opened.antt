@@ -17,7 +17,8 @@ use Rattle.trade.proofs.Answers.{passed-head, passed-tail, givenFirst-passed}
 use Rattle.trade.proofs.Valid.{sound, book-valid}
 use Rattle.plans.specs.Network.{Within}
 use Rattle.book.specs.Frame.{frameOf}
-use Rattle.book.proofs.Opening.{passed, done-lies, rows-whole, records-whole, steps-whole}
+use Rattle.trade.proofs.Whole.{rows-whole, records-whole, steps-whole}
+use Rattle.book.proofs.Opening.{passed, done-lies}
 use Rattle.admission.specs.Formed.{InRange, Formed}
 
 -- a step that is not bad goes from one node below n to another
@@ -74,7 +75,7 @@ unfolding bookRules said frameOf sectionsOf
 book-formed b e =
     let p6 = passed-tail (passed-tail (passed-tail (passed-tail (passed-tail (passed b e))))) in
     let lies = done-lies b e in
-    formed-by (sectionsOf b) (lies .nodes) (lies .flows) (omega (arith, rows-whole b e)) (omega (arith, records-whole b e))
-    (omega (arith, steps-whole b e))
+    formed-by (sectionsOf b) (lies .nodes) (lies .flows) (omega (arith, rows-whole b (passed b e))) (omega (arith, records-whole b (passed b e)))
+    (omega (arith, steps-whole b (passed b e)))
     (passed-head p6)
     (passed-head (passed-tail (passed-tail p6)))

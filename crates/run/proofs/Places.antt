@@ -6,10 +6,10 @@ use mathlib.Core.List.{List, [], _∷_, _++_, append-assoc, append-nil}
 use native.Mathlib.Nat.{add-zero, zero-add, add-suc, suc-add}
 use native.Mathlib.Numerals.{add-one}
 use native.Mathlib.Omega.{arith}
-use lib.ListN.{length, getD, set, take, drop, length-append, length-drop, take-append-drop}
+use lib.ListN.{length, getD, set, take, drop, length-append, length-drop, take-append-drop, replicate}
 use lib.Seq.{getD-set-same, getD-set-other, set-at, drop-cons, length-take-le}
 use borrow.Author.Tests.{lt-ltb}
-use Rattle.trade.specs.Run.{idleOf}
+use Rattle.trade.specs.Run.{idleOf, emptyRun}
 use Rattle.trade.specs.First.{listFrom, listTo}
 use Rattle.trade.specs.Limits.{mostFlows, slotBytes}
 use Rattle.trade.specs.Bytes.{twoBytes, fourBytes, over}
@@ -30,6 +30,16 @@ stored places i p h = ap (λ (q : Progress). q .done .0) (getD-set-same places i
 pub unstored : (places : List Progress) (i j : ℕ) (p : Progress) → (j ≡ i → ⊥) → placeOf (set places i p) j ≡ placeOf places j
 unfolding placeOf
 unstored places i j p n = ap (λ (q : Progress). q .done .0) (getD-set-other places i j p (idleOf 0) n)
+
+-- the places of the empty run are 0
+repeated : (n k : ℕ) (p : Progress) → getD (replicate n p) k p ≡ p
+repeated zero k p = refl
+repeated (suc n) zero p = refl
+repeated (suc n) (suc k) p = repeated n k p
+
+pub unused : (k : ℕ) → placeOf (emptyRun .flows) k ≡ 0
+unfolding placeOf
+unused k = ap (λ (p : Progress). p .done .0) (repeated mostFlows k (idleOf 0))
 
 -- a figure's values at one index more
 list-from-next : (figure : ℕ → ℕ) (i k : ℕ) → listFrom figure i (suc k) ≡ listFrom figure i k ++ (figure (i + k) ∷ [])

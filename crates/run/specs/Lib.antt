@@ -3,3 +3,4 @@ pub mod States
 pub mod Turns
 pub mod Slots
 pub mod Refusals
+pub mod Calls

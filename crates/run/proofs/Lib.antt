@@ -4,3 +4,4 @@ pub mod Places
 pub mod Choosing
 pub mod Refusing
 pub mod Prefix
+pub mod Advanced

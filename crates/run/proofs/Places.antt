@@ -1,7 +1,7 @@
 -- The places of a run: one that was stored, and the others; and bytes stored one behind the other. Leans on book's Pasting.
 -- Assumes nothing.
 use Prim.Native.Nat.{ℕ, zero, suc, _+_, _<_, _≤_}
-use mathlib.Core.Path.{_≡_, refl, sym, _∙_, ap}
+use mathlib.Core.Path.{_≡_, refl, sym, _∙_, ap, ap₂}
 use mathlib.Core.List.{List, [], _∷_, _++_, append-assoc, append-nil}
 use native.Mathlib.Nat.{add-zero, zero-add, add-suc, suc-add}
 use native.Mathlib.Numerals.{add-one}
@@ -114,3 +114,14 @@ area-written s d =
     pasted-next (fourBytes (s .slot)) (listTo (s .done) mostFlows) d
     ∙ ap (λ (places : List ℕ). over (fourBytes (s .slot) ++ places) d)
     (listTo-same (s .done) (placeByte mostFlows s) mostFlows (λ i h. rw (lt-ltb i mostFlows h)))
+
+-- a run of so many flows, and one of every place, are written alike where they agree at each place
+pub area-same :
+    (flows : ℕ) (s u : State)
+    → s .slot ≡ u .slot
+    → ((i : ℕ) → i < mostFlows → s .done i ≡ placeByte flows u i)
+    → areaOf mostFlows s ≡ areaOf flows u
+unfolding areaOf
+area-same flows s u slot places =
+    ap₂ (λ (v : ℕ) (bytes : List ℕ). fourBytes v ++ bytes) slot
+    (listTo-same (placeByte mostFlows s) (placeByte flows u) mostFlows (λ i h. rw (lt-ltb i mostFlows h) (places i h)))

@@ -1,0 +1,7 @@
+-- Laws that the proofs of this crate's functions cite.
+pub mod Turning
+pub mod Places
+pub mod Choosing
+pub mod Refusing
+pub mod Prefix
+pub mod Advanced

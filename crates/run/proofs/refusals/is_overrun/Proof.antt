@@ -1,0 +1,33 @@
+-- `run::refusals::is_overrun` counts releases from the phase. Assumes nothing.
+use mathlib.Core.Path.{ap}
+use mathlib.Core.Bool.{Bool, _&&_}
+use lib.Dec.{ltb}
+use Rattle.run.specs.Refusals.{overrunAt}
+use borrow.Author.Needs.{needs}
+use Rattle.run.proofs.refusals.is_overrun.Statement.{statement}
+use Rattle.run.proofs.refusals.is_overrun.Tie as tie
+use Rattle.run.proofs.refusals.is_overrun.Reads as reads
+use Rattle.run.proofs.refusals.is_overrun.Lts as lts
+use Rattle.run.proofs.release.is_released.Reads as is-released-reads
+
+-- src/refusals.rt:59:22
+cast-t5 : tie.Need-cast-t5
+cast-t5 c = search needs
+
+-- src/refusals.rt:59:5
+is-released-requires : tie.Need-is-released-requires
+is-released-requires c κs = search needs
+
+-- src/refusals.rt:59:65
+cast-result : tie.Need-cast-result
+cast-result c = search needs
+
+-- src/refusals.rt:55:1
+returns : tie.Need-returns
+unfolding overrunAt
+returns c =
+    let a = c .before .before .before .before .args in
+    ap (λ (b : Bool). b && ltb (a .p .done .0) (a .flow .len)) (c .before .before .is-released .ensures)
+
+pub is-overrun-spec : {M : Type 1} → statement M
+is-overrun-spec = tie.close (tie.spec cast-t5 is-released-requires cast-result returns)

@@ -1,0 +1,110 @@
+-- `run::start::started` makes one flow after another idle in the empty run. Assumes nothing.
+use Prim.Native.Nat.{ℕ, suc, _+_, _-_, _≤_, _<_}
+use mathlib.Core.Path.{_≡_, refl, sym, _∙_, ap}
+use native.Mathlib.Omega.{arith}
+use denote.Ref.{now}
+use borrow.Author.Needs.{needs}
+use borrow.Author.Count.{below-more}
+use lib.ListN.{length, length-set}
+use Rattle.trade.specs.Limits.{mostFlows}
+use Rattle.trade.specs.Layout.{field}
+use Rattle.trade.specs.declared.run.Progress.{Progress}
+use Rattle.trade.specs.declared.run.Run.{Run}
+use Rattle.run.specs.States.{placeOf}
+use Rattle.run.proofs.Places.{stored, unstored, unused}
+use Rattle.run.proofs.start.started.Statement.{statement}
+use Rattle.run.proofs.start.started.Tie as tie
+use Rattle.run.proofs.start.started.Reads as reads
+use Rattle.run.proofs.start.started.Lts as lts
+use Rattle.book.proofs.records.len_at.Reads as len-at-reads
+use Rattle.trade.proofs.run.Progress.idle.Reads as idle-reads
+use Rattle.trade.proofs.run.Run.empty.Reads as empty-reads
+
+abbrev Inv-loop : tie.InvT-loop
+Inv-loop flows rows records steps slot places₀ i₀ places i =
+    (i ≤ flows)
+    × (length places ≡ mostFlows)
+    × (slot .0 ≡ 0)
+    × ((k : ℕ) → k < i → placeOf places k ≡ field records k 4)
+    × ((k : ℕ) → i ≤ k → placeOf places k ≡ 0)
+
+abbrev μ-loop : tie.MeasureT-loop
+μ-loop flows rows records steps slot places₀ i₀ places i = flows - i
+
+-- src/start.rt:21:9
+empty-requires : tie.Need-empty-requires Inv-loop μ-loop
+empty-requires c κs = search needs
+
+-- src/start.rt:25:5
+loop-holds : tie.Need-loop-holds Inv-loop μ-loop
+loop-holds c =
+    let empty = c .before .before .empty .ensures in (
+      omega arith,
+      ap (λ (r : Run). length (r .flows)) empty,
+      ap (λ (r : Run). r .slot .0) empty,
+      λ k h. absurd (omega arith),
+      λ k h. ap (λ (r : Run). placeOf (r .flows) k) empty ∙ unused k,
+    )
+
+-- src/start.rt:26:36
+len-at-requires : tie.Need-len-at-requires Inv-loop μ-loop
+len-at-requires c κs = search needs
+
+-- src/start.rt:26:36
+cast-idle : tie.Need-cast-idle Inv-loop μ-loop
+cast-idle c = omega (arith, c .len-at .ensures .0, c .before .before .before .before .before .before .before .before .before .pre .fields (c .before .before .loop .i) (c .before .loop-test .taken) .len .1)
+
+-- src/start.rt:26:21
+idle-requires : tie.Need-idle-requires Inv-loop μ-loop
+idle-requires c κs = search needs
+
+-- src/start.rt:26:9
+array-set-from-places : tie.Need-array-set-from-places Inv-loop μ-loop
+array-set-from-places c = search needs
+
+-- src/start.rt:27:9
+add-i : tie.Need-add-i Inv-loop μ-loop
+add-i c = search needs
+
+-- src/start.rt:25:5
+loop-less : tie.Need-loop-less Inv-loop μ-loop
+loop-less c = search needs
+
+-- src/start.rt:25:5
+loop-again : tie.Need-loop-again Inv-loop μ-loop
+loop-again c =
+    let loop = c .before .before .before .loop in (
+      omega arith,
+      simp length-set (loop .inv .1),
+      loop .inv .2,
+      below-more _ _ (λ k h. unstored (loop .places) (loop .i) k _ (λ e. omega arith) ∙ loop .inv .3 k h)
+          (stored (loop .places) (loop .i) _ (omega arith) ∙ ap (λ (p : Progress). p .done .0) (c .idle .ensures) ∙ c .before .len-at .ensures .0),
+      λ k h. unstored (loop .places) (loop .i) k _ (λ e. omega arith) ∙ loop .inv .4 k (omega arith),
+    )
+
+-- src/start.rt:17:1
+returns : tie.Need-returns Inv-loop μ-loop
+returns c =
+    let loop = c .before .loop in
+    record {
+      slot = loop .inv .2;
+      places = λ k h. loop .inv .3 k (omega arith);
+      others = λ k h. loop .inv .4 k (omega arith);
+    }
+
+pub started-spec : {M : Type 1} → statement M
+started-spec =
+    tie.close
+    (tie.spec
+    Inv-loop
+    μ-loop
+    empty-requires
+    loop-holds
+    len-at-requires
+    cast-idle
+    idle-requires
+    array-set-from-places
+    add-i
+    loop-less
+    loop-again
+    returns)

@@ -1,0 +1,6 @@
+-- Definitions that the contracts of this crate cite beside those of the trade.
+pub mod States
+pub mod Turns
+pub mod Slots
+pub mod Refusals
+pub mod Calls

@@ -1,0 +1,71 @@
+-- One flow's turn in a slot. Leans on States, and on the grant set of plans.
+use Prim.Native.Nat.{ℕ, _+_, _-_, _*_, _/_, _%_, _≤_, _<_}
+use mathlib.Core.Path.{_≡_}
+use mathlib.Core.Bool.{Bool, true, false, cond, not, _&&_}
+use mathlib.Core.List.{List}
+use lib.Dec.{eqb, leb, ltb}
+use lib.ListN.{length}
+use Rattle.trade.specs.Limits.{mostSteps, stepBytes, grantBytes}
+use Rattle.trade.specs.Facts.{stepIn}
+use Rattle.trade.specs.declared.flow.Flow.{Flow}
+use Rattle.trade.specs.declared.node.Transmission.{Transmission}
+use Rattle.trade.specs.declared.run.Grant.{Grant}
+use Rattle.trade.specs.declared.run.Progress.{Progress}
+use Rattle.plans.specs.Network.{Within}
+use Rattle.plans.specs.Grants.{clashesWith, Grown}
+use Rattle.book.specs.Written.{pastedAt}
+use Rattle.run.specs.States.{bytesOf}
+use Rattle.run.specs.declared.slot.Turn.{Turn}
+use Rattle.run.specs.declared.slot.Made.{Made}
+use Rattle.run.specs.declared.slot.Taken.{Taken}
+
+-- an instance of a flow is released in a slot: its first release + v × P
+unfoldable pub releasedAt : ℕ → ℕ → ℕ → Bool
+releasedAt first period slot = leb first slot && eqb ((slot - first) % period) 0
+
+-- the latest instance that is released by a slot
+unfoldable pub instanceBy : ℕ → ℕ → ℕ → ℕ
+instanceBy first period slot = (slot - first) / period
+
+-- the steps done after the slot's releases: a release sets them to 0
+unfoldable pub doneAfter : ℕ → ℕ → ℕ → ℕ → ℕ
+doneAfter first period slot before = cond (releasedAt first period slot) 0 before
+
+-- a flow as it stands after the releases of a slot
+unfoldable pub turnOf : Flow → ℕ → ℕ → Progress → ℕ → Turn
+turnOf flow first slot before start =
+    record {
+      flow = flow;
+      instance = record { 0 = instanceBy first (flow .period) slot };
+      done = record { 0 = doneAfter first (flow .period) slot (before .done .0) };
+      start = start;
+    }
+
+-- its next step, where its plan starts at a step of the section
+unfoldable pub nextOf : List ℕ → Turn → Transmission
+nextOf steps turn = stepIn steps (turn .start + turn .done .0)
+
+-- it goes: it is unfinished, and its next step clashes with no grant already made
+unfoldable pub goesNow : List ℕ → List ℕ → Turn → Made → Bool
+goesNow rows steps turn made = ltb (turn .done .0) (turn .flow .len) && not (clashesWith rows (made .set) (nextOf steps turn))
+
+-- the grant of its next step
+unfoldable pub grantNow : List ℕ → Turn → Grant
+grantNow steps turn =
+    record { id = turn .flow .id; instance = turn .instance; step = turn .done; transmission = nextOf steps turn }
+
+-- what a turn asks: while the flow is unfinished, its next step is one of the section and stays in the network, and there is room for
+-- one more grant
+pub record Room (rows steps : List ℕ) (turn : Turn) (made : Made) (room : ℕ) : Type 0 where
+  pub len : turn .flow .len ≤ mostSteps
+  pub step : turn .done .0 < turn .flow .len → stepBytes * (turn .start + turn .done .0) + 1 < length steps
+  pub within : turn .done .0 < turn .flow .len → Within rows (nextOf steps turn)
+  pub grant : grantBytes * made .count + grantBytes ≤ room
+
+-- what a turn does: a flow that goes adds its grant behind the others, and has one more step done; another leaves all as it was
+pub record Turned (rows steps : List ℕ) (turn : Turn) (made : Made) (lent : List ℕ) (r : Taken) (left : List ℕ) : Type 0 where
+  pub waits : goesNow rows steps turn made ≡ false → (r ≡ record { made = made; done = turn .done }) × (left ≡ lent)
+  pub set : goesNow rows steps turn made ≡ true → Grown rows (made .set) (nextOf steps turn) (r .made .set)
+  pub count : goesNow rows steps turn made ≡ true → r .made .count ≡ made .count + 1
+  pub done : goesNow rows steps turn made ≡ true → r .done .0 ≡ turn .done .0 + 1
+  pub grant : goesNow rows steps turn made ≡ true → left ≡ pastedAt (grantBytes * made .count) (bytesOf (grantNow steps turn)) lent

@@ -19,7 +19,7 @@ use Rattle.trade.specs.Answers.{done, refused, isDone, firstOf, noNumber}
 use Rattle.trade.specs.Codes.{badPlace, overrun, code10, code11, code12, code13}
 use Rattle.trade.specs.Calls.{bookRules, readAnswer, Advancing, flowsGranted, advanceAnswer, advanceOf, nextArea, grantsIn}
 use Rattle.trade.specs.declared.answer.Answer.{Answer}
-use Rattle.trade.specs.declared.run.Run.{Run}
+use Rattle.trade.specs.declared.state.Run.{Run}
 use Rattle.trade.proofs.First.{bool-cases, lt-or-ge}
 use Rattle.trade.proofs.Answers.{firstOf-rule, firstOf-refuse, firstOf-pass, firstOf-on, given-true, given-false, givenFirst-same}
 use Rattle.trade.proofs.Area.{placeByte}

@@ -21,8 +21,8 @@ use Rattle.trade.specs.Interference.{one}
 use Rattle.trade.specs.Run.{idleOf}
 use Rattle.trade.specs.Slot.{State, Rule, going, greedy, granted, among, released, instanceAt, doneNow, unfinished, nextStep, nextState, grantOf, grantsOf}
 use Rattle.trade.specs.declared.node.Transmission.{Transmission}
-use Rattle.trade.specs.declared.run.Progress.{Progress}
-use Rattle.trade.specs.declared.run.Run.{Run}
+use Rattle.trade.specs.declared.state.Progress.{Progress}
+use Rattle.trade.specs.declared.state.Run.{Run}
 use Rattle.trade.proofs.First.{bool-cases, not-both, lt-or-ge}
 use Rattle.trade.proofs.Sums.{sum-next, sum-le}
 use Rattle.trade.proofs.Slot.{going-goes, going-stays, going-below, among-last, among-more}

@@ -17,7 +17,7 @@ use Rattle.trade.specs.Slot.{State}
 use Rattle.trade.specs.Area.{areaOf}
 use Rattle.trade.proofs.Sums.{length-listTo, listTo-same}
 use Rattle.trade.proofs.Area.{placeByte}
-use Rattle.trade.specs.declared.run.Progress.{Progress}
+use Rattle.trade.specs.declared.state.Progress.{Progress}
 use Rattle.book.specs.Written.{pastedAt}
 use Rattle.book.proofs.Pasting.{pasted-next}
 use Rattle.run.specs.States.{placeOf}

@@ -15,7 +15,7 @@ use Rattle.trade.specs.Run.{idleOf}
 use Rattle.trade.specs.Slot.{State, released}
 use Rattle.trade.specs.Answers.{done, refused, isDone, given}
 use Rattle.trade.specs.Codes.{badPlace, overrun, code10, code11, code12}
-use Rattle.trade.specs.declared.run.Run.{Run}
+use Rattle.trade.specs.declared.state.Run.{Run}
 use Rattle.trade.specs.declared.answer.Answer.{Answer}
 use Rattle.trade.proofs.First.{bool-cases}
 use Rattle.trade.proofs.Answers.{given-passed, givenFirst-passed, givenFirst-at, givenFirst-none}

@@ -9,7 +9,7 @@ use Rattle.trade.specs.Codes.{code10, code11, code12}
 use Rattle.trade.specs.declared.answer.Answer.{Answer}
 use Rattle.trade.specs.declared.clock.Slot.{Slot}
 use Rattle.trade.specs.declared.flow.Flow.{Flow}
-use Rattle.trade.specs.declared.run.Progress.{Progress}
+use Rattle.trade.specs.declared.state.Progress.{Progress}
 use Rattle.run.specs.Turns.{releasedAt}
 
 -- the state that a slot and one place show

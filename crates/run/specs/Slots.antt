@@ -6,7 +6,7 @@ use lib.ListN.{length}
 use Rattle.trade.specs.Bytes.{over}
 use Rattle.trade.specs.Facts.{Facts}
 use Rattle.trade.specs.Slot.{granted, grantOf, grantsOf, nextState}
-use Rattle.trade.specs.declared.run.Run.{Run}
+use Rattle.trade.specs.declared.state.Run.{Run}
 use Rattle.run.specs.States.{stateOf, placeOf}
 use Rattle.run.specs.declared.slot.Outcome.{Outcome}
 

@@ -9,9 +9,9 @@ use Rattle.trade.specs.Layout.{field}
 use Rattle.trade.specs.Slot.{State}
 use Rattle.trade.specs.Area.{stateIn}
 use Rattle.trade.specs.Run.{idleOf}
-use Rattle.trade.specs.declared.run.Grant.{Grant}
-use Rattle.trade.specs.declared.run.Progress.{Progress}
-use Rattle.trade.specs.declared.run.Run.{Run}
+use Rattle.trade.specs.declared.state.Grant.{Grant}
+use Rattle.trade.specs.declared.state.Progress.{Progress}
+use Rattle.trade.specs.declared.state.Run.{Run}
 
 -- the steps done by the flow at a place; 0 past the last place
 unfoldable pub placeOf : List Progress → ℕ → ℕ

@@ -9,8 +9,8 @@ use Rattle.trade.specs.Limits.{mostSteps, stepBytes, grantBytes}
 use Rattle.trade.specs.Facts.{stepIn}
 use Rattle.trade.specs.declared.flow.Flow.{Flow}
 use Rattle.trade.specs.declared.node.Transmission.{Transmission}
-use Rattle.trade.specs.declared.run.Grant.{Grant}
-use Rattle.trade.specs.declared.run.Progress.{Progress}
+use Rattle.trade.specs.declared.state.Grant.{Grant}
+use Rattle.trade.specs.declared.state.Progress.{Progress}
 use Rattle.plans.specs.Network.{Within}
 use Rattle.plans.specs.Grants.{clashesWith, Grown}
 use Rattle.book.specs.Written.{pastedAt}

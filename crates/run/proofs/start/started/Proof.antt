@@ -8,8 +8,8 @@ use borrow.Author.Count.{below-more}
 use lib.ListN.{length, length-set}
 use Rattle.trade.specs.Limits.{mostFlows}
 use Rattle.trade.specs.Layout.{field}
-use Rattle.trade.specs.declared.run.Progress.{Progress}
-use Rattle.trade.specs.declared.run.Run.{Run}
+use Rattle.trade.specs.declared.state.Progress.{Progress}
+use Rattle.trade.specs.declared.state.Run.{Run}
 use Rattle.run.specs.States.{placeOf}
 use Rattle.run.proofs.Places.{stored, unstored, unused}
 use Rattle.run.proofs.start.started.Statement.{statement}
@@ -17,8 +17,8 @@ use Rattle.run.proofs.start.started.Tie as tie
 use Rattle.run.proofs.start.started.Reads as reads
 use Rattle.run.proofs.start.started.Lts as lts
 use Rattle.book.proofs.records.len_at.Reads as len-at-reads
-use Rattle.trade.proofs.run.Progress.idle.Reads as idle-reads
-use Rattle.trade.proofs.run.Run.empty.Reads as empty-reads
+use Rattle.trade.proofs.state.Progress.idle.Reads as idle-reads
+use Rattle.trade.proofs.state.Run.empty.Reads as empty-reads
 
 abbrev Inv-loop : tie.InvT-loop
 Inv-loop flows rows records steps slot places₀ i₀ places i =

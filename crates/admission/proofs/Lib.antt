@@ -11,3 +11,5 @@ pub mod Monotone
 pub mod Accepts
 pub mod Unique
 pub mod Splicing
+pub mod Growing
+pub mod Grown

@@ -1,0 +1,157 @@
+-- The sections of a table with a flow put in: those of `withFlow`, zeros behind each. Leans on Growing. Assumes nothing.
+use Prim.Native.Nat.{ℕ, zero, suc, pred, _+_, _-_, _*_, _≤_, _<_}
+use mathlib.Core.Path.{_≡_, refl, sym, _∙_, ap, ap₂}
+use mathlib.Core.List.{List, [], _∷_, _++_}
+use native.Mathlib.Omega.{arith}
+use native.Mathlib.Nat.{add-zero}
+use native.Mathlib.Numerals.{add-one}
+use lib.ListN.{length, take, drop, length-append, length-take, length-drop}
+use lib.Seq.{take-take, take-all, length-take-le}
+use Rattle.trade.specs.Limits.{rowBytes, recordBytes, stepBytes, mostSteps}
+use Rattle.trade.specs.First.{sumTo}
+use Rattle.trade.specs.Bytes.{word, twoBytes, padded}
+use Rattle.trade.specs.Layout.{Sections, sections, field}
+use Rattle.trade.specs.Facts.{factsOf, firstStep, allSteps}
+use Rattle.trade.specs.Table.{used, tableOf, rowsRoom, recordsRoom, stepsRoom}
+use Rattle.trade.specs.Calls.{Adding, recordOf, withFlow}
+use Rattle.trade.specs.declared.flow.Flow.{Flow}
+use Rattle.trade.proofs.Sums.{sum-cong, sum-le}
+use Rattle.trade.proofs.Bytes.{word-twoBytes}
+use Rattle.trade.proofs.Used.{same-sections}
+use Rattle.book.proofs.Writing.{Sized, sized}
+use Rattle.admission.specs.Change.{spliced, Grows}
+use Rattle.admission.proofs.Growing.{used-spliced, sum-insert, word-take, before-cut, in-cut, behind-cut}
+
+-- the length of a list cut open
+length-spliced :
+  (at from end : ℕ) (middle src : List ℕ)
+  → at ≤ length src
+  → end ≤ length src
+  → length (spliced at from end middle src) ≡ at + length middle + (end - from)
+unfolding spliced
+length-spliced at from end middle src h k =
+    length-append (take at src ++ middle) (take (end - from) (drop from src))
+    ∙ ap₂ (λ (a b : ℕ). a + b) (length-append (take at src) middle ∙ ap (λ (a : ℕ). a + length middle) (length-take-le at src h))
+      (length-take-le (end - from) (drop from src) (rw (length-drop from src) (omega arith)))
+
+-- where a plan starts, by the used records or by all
+pub starts-alike : (t : Sections) (p : ℕ) → p ≤ t .flows → firstStep (factsOf (used t)) p ≡ sumTo (λ i. field (t .records) i 4) p
+unfolding firstStep factsOf used field
+starts-alike t p h =
+    sum-cong (λ i. word (take (recordBytes * t .flows) (t .records)) (recordBytes * i + 2 * 4)) (λ i. word (t .records) (recordBytes * i + 2 * 4)) p
+    (λ i l. word-take (recordBytes * t .flows) (t .records) (recordBytes * i + 2 * 4) (omega arith))
+
+-- a flow's record: ten bytes, the last two its L
+pub length-record : (w : Flow) → length (recordOf w) ≡ recordBytes * 1
+unfolding recordOf twoBytes
+length-record w = refl
+
+len-record : (w : Flow) → w .len ≤ mostSteps → field (recordOf w) 0 4 ≡ w .len
+unfolding field word recordOf twoBytes
+len-record w h = word-twoBytes (w .len) [] (omega arith)
+
+module _ (a : Adding) (g : Grows a) where
+  sizes : Sized (a .table)
+  sizes = sized (a .table) (g .passed)
+
+  abbrev starts : ℕ
+  starts = sumTo (λ i. field (a .table .records) i 4) (a .place)
+
+  abbrev ends : ℕ
+  ends = sumTo (λ i. field (a .table .records) i 4) (a .table .flows)
+
+  few : sumTo (λ i. field (a .table .records) i 4) (a .table .flows) ≤ mostSteps * a .table .flows
+  unfolding allSteps firstStep factsOf
+  few = sizes .plans
+
+  new-records : withFlow a .records ≡ spliced (recordBytes * a .place) (recordBytes * a .place) (recordBytes * a .table .flows) (recordOf (a .flow)) (a .table .records)
+  unfolding withFlow used
+  new-records = used-spliced (recordBytes * a .place) (recordBytes * a .place) (recordBytes * a .table .flows) (recordOf (a .flow)) (a .table .records) (omega (arith, g .place))
+
+  new-steps :
+    withFlow a .steps
+    ≡ spliced (stepBytes * sumTo (λ i. field (a .table .records) i 4) (a .place)) (stepBytes * sumTo (λ i. field (a .table .records) i 4) (a .place))
+      (stepBytes * sumTo (λ i. field (a .table .records) i 4) (a .table .flows)) (take (stepBytes * a .flow .len) (a .plan)) (a .table .steps)
+  unfolding withFlow used allSteps firstStep factsOf
+  new-steps =
+      rw (starts-alike (a .table) (a .place) (g .place))
+      (used-spliced (stepBytes * starts) (stepBytes * starts) (stepBytes * ends) (take (stepBytes * a .flow .len) (a .plan)) (a .table .steps)
+      (omega (arith, sum-le (λ i. field (a .table .records) i 4) (a .place) (a .table .flows) (g .place))))
+
+  whole : recordBytes * a .table .flows ≤ length (a .table .records)
+  whole = omega (arith, g .memory .records, g .room)
+
+  new-field :
+    (i k : ℕ)
+    → field (withFlow a .records) i k
+    ≡ field (spliced (recordBytes * a .place) (recordBytes * a .place) (recordBytes * a .table .flows) (recordOf (a .flow)) (a .table .records)) i k
+  new-field i k = ap (λ (r : List ℕ). field r i k) new-records
+
+  kept-before : (i : ℕ) → i < a .place → field (withFlow a .records) i 4 ≡ field (a .table .records) i 4
+  kept-before i l =
+      new-field i 4
+      ∙ before-cut (a .table .records) (recordOf (a .flow)) (a .place) (a .place) (a .table .flows) 1 whole (omega arith) (g .place) (length-record (a .flow)) i 4 l
+        (omega arith)
+
+  put-in : field (withFlow a .records) (a .place) 4 ≡ a .flow .len
+  put-in =
+      let e : a .place ≡ a .place + 0 = omega arith in
+      ap (λ (i : ℕ). field (withFlow a .records) i 4) e
+      ∙ new-field (a .place + 0) 4
+      ∙ in-cut (a .table .records) (recordOf (a .flow)) (a .place) (a .place) (a .table .flows) 1 whole (omega arith) (g .place) (length-record (a .flow)) 0 4
+        (omega arith) (omega arith)
+      ∙ len-record (a .flow) (g .len)
+
+  kept-behind : (i : ℕ) → a .place ≤ i → i < a .table .flows → field (withFlow a .records) (suc i) 4 ≡ field (a .table .records) i 4
+  kept-behind i q r =
+      let e : suc i ≡ a .place + 1 + (i - a .place) = omega arith in
+      let o : a .place + (i - a .place) ≡ i = omega arith in
+      ap (λ (j : ℕ). field (withFlow a .records) j 4) e
+      ∙ new-field (a .place + 1 + (i - a .place)) 4
+      ∙ behind-cut (a .table .records) (recordOf (a .flow)) (a .place) (a .place) (a .table .flows) 1 whole (omega arith) (g .place) (length-record (a .flow))
+        (i - a .place) 4 (omega arith) (omega arith)
+      ∙ ap (λ (j : ℕ). field (a .table .records) j 4) o
+
+  -- one plan more
+  longer : allSteps (factsOf (withFlow a)) ≡ ends + a .flow .len
+  unfolding allSteps firstStep factsOf withFlow used
+  longer =
+      sum-insert (λ i. field (a .table .records) i 4) (λ i. field (withFlow a .records) i 4) (a .flow .len) (a .place) (a .table .flows) (g .place) kept-before put-in
+      kept-behind
+
+  length-records : length (withFlow a .records) ≤ recordBytes * withFlow a .flows
+  unfolding withFlow used
+  length-records =
+      omega
+      (arith, ap (λ (r : List ℕ). length r) new-records
+      ∙ length-spliced (recordBytes * a .place) (recordBytes * a .place) (recordBytes * a .table .flows) (recordOf (a .flow)) (a .table .records)
+        (omega (arith, whole, g .place)) whole, length-record (a .flow), g .place)
+
+  length-steps : length (withFlow a .steps) ≤ stepBytes * allSteps (factsOf (withFlow a))
+  length-steps =
+      let most = sum-le (λ i. field (a .table .records) i 4) (a .place) (a .table .flows) (g .place) in
+      omega
+      (arith, ap (λ (r : List ℕ). length r) new-steps
+      ∙ length-spliced (stepBytes * starts) (stepBytes * starts) (stepBytes * ends) (take (stepBytes * a .flow .len) (a .plan)) (a .table .steps)
+        (omega (arith, most, few, g .memory .steps, g .room)) (omega (arith, few, g .memory .steps, g .room)), length-take (stepBytes * a .flow .len) (a .plan), most, longer)
+
+  same-nodes : withFlow a .nodes ≡ a .table .nodes
+  unfolding withFlow used
+  same-nodes = refl
+
+  same-flows : withFlow a .flows ≡ suc (a .table .flows)
+  unfolding withFlow used
+  same-flows = refl
+
+  same-rows : padded rowsRoom (take (rowBytes * withFlow a .nodes) (withFlow a .rows)) ≡ padded rowsRoom (take (rowBytes * a .table .nodes) (a .table .rows))
+  unfolding withFlow used
+  same-rows = ap (padded rowsRoom) (take-take (rowBytes * a .table .nodes) (rowBytes * a .table .nodes) (a .table .rows) (omega arith))
+
+  -- the sections of the table with the flow put in are all used
+  pub grown-sections :
+    tableOf (withFlow a)
+    ≡ sections (a .table .nodes) (suc (a .table .flows)) (padded rowsRoom (take (rowBytes * a .table .nodes) (a .table .rows)))
+      (padded recordsRoom (spliced (recordBytes * a .place) (recordBytes * a .place) (recordBytes * a .table .flows) (recordOf (a .flow)) (a .table .records)))
+      (padded stepsRoom (spliced (stepBytes * starts) (stepBytes * starts) (stepBytes * ends) (take (stepBytes * a .flow .len) (a .plan)) (a .table .steps)))
+  unfolding tableOf used
+  grown-sections = same-sections _ _ same-nodes same-flows same-rows (ap (padded recordsRoom) (take-all _ _ length-records ∙ new-records)) (ap (padded stepsRoom) (take-all _ _ length-steps ∙ new-steps))

@@ -19,7 +19,7 @@ use Rattle.trade.proofs.Sums.{sum-cong, sum-le}
 use Rattle.trade.proofs.Bytes.{word-twoBytes}
 use Rattle.trade.proofs.Used.{same-sections}
 use Rattle.book.proofs.Writing.{Sized, sized}
-use Rattle.admission.specs.Change.{spliced, Grows}
+use Rattle.admission.specs.Change.{spliced, Cuts, Grows}
 use Rattle.admission.proofs.Growing.{used-spliced, sum-insert, word-take, before-cut, in-cut, behind-cut}
 
 -- the length of a list cut open
@@ -155,3 +155,37 @@ module _ (a : Adding) (g : Grows a) where
       (padded stepsRoom (spliced (stepBytes * starts) (stepBytes * starts) (stepBytes * ends) (take (stepBytes * a .flow .len) (a .plan)) (a .table .steps)))
   unfolding tableOf used
   grown-sections = same-sections _ _ same-nodes same-flows same-rows (ap (padded recordsRoom) (take-all _ _ length-records ∙ new-records)) (ap (padded stepsRoom) (take-all _ _ length-steps ∙ new-steps))
+
+  -- the cuts by which it is made lie in the old sections, and there is room
+  module _ (bytes : List ℕ) (first last : ℕ) (is : bytes ≡ recordOf (a .flow)) (from : first ≡ starts) (to : last ≡ ends) where
+    pub room-for-rows : (rowBytes * a .table .nodes ≤ length (a .table .rows)) × (rowBytes * a .table .nodes ≤ rowsRoom)
+    room-for-rows = (omega (arith, g .memory .rows, sizes .nodes), omega (arith, sizes .nodes))
+
+    pub record-cut :
+      Cuts (record { at = recordBytes * a .place; from = recordBytes * a .place; end = recordBytes * a .table .flows }) bytes (a .table .records) recordsRoom
+    record-cut =
+        record {
+          ordered = omega arith;
+          within = omega (arith, g .place);
+          ends = whole;
+          fits = omega (arith, ap (λ (r : List ℕ). length r) is ∙ length-record (a .flow), g .place, g .room);
+        }
+
+    pub plan-cut :
+      Cuts (record { at = stepBytes * first; from = stepBytes * first; end = stepBytes * last }) (take (stepBytes * a .flow .len) (a .plan)) (a .table .steps)
+      stepsRoom
+    plan-cut =
+        let most = sum-le (λ i. field (a .table .records) i 4) (a .place) (a .table .flows) (g .place) in
+        record {
+          ordered = omega arith;
+          within = omega (arith, from, to, most);
+          ends = omega (arith, to, few, g .memory .steps, g .room);
+          fits = omega (arith, from, to, most, few, g .room, g .len, length-take (stepBytes * a .flow .len) (a .plan));
+        }
+
+    pub grown-as :
+      sections (a .table .nodes) (a .table .flows + 1) (padded rowsRoom (take (rowBytes * a .table .nodes) (a .table .rows)))
+      (padded recordsRoom (spliced (recordBytes * a .place) (recordBytes * a .place) (recordBytes * a .table .flows) bytes (a .table .records)))
+      (padded stepsRoom (spliced (stepBytes * first) (stepBytes * first) (stepBytes * last) (take (stepBytes * a .flow .len) (a .plan)) (a .table .steps)))
+      ≡ tableOf (withFlow a)
+    grown-as = rw (is, from, to, add-one (a .table .flows)) (sym grown-sections)

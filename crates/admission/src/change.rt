@@ -172,3 +172,39 @@ fn new_answer<'a>(
     }
     bounds_of(flows, rows, records, steps).answer
 }
+// The table with a flow put in at a place: its record, and the L steps of its plan.
+fn grown<'a>(
+    nodes: u8,
+    flows: u8,
+    rows: &'a [u8],
+    records: &'a [u8],
+    steps: &'a [u8],
+    place: usize,
+    flow: Flow,
+    plan: &[u8],
+) -> Table
+    requires { ⌜ Grows (record { table = sections nodes flows (now rows) (now records) (now steps); place = place; flow = flow; plan = now plan }) ⌝ }
+    ensures { λ r. ⌜ sectionsIn r
+        ≡ tableOf (withFlow (record { table = sections nodes flows (now (rows .entry)) (now (records .entry)) (now (steps .entry)); place = place; flow = flow; plan = now (plan .entry) })) ⌝ }
+{
+    let at = Flow::RECORD_BYTES * place;
+    let end = Flow::RECORD_BYTES * (flows as usize);
+    let first = Plan::STEP_BYTES * steps_before(records, place);
+    let last = Plan::STEP_BYTES * steps_before(records, flows as usize);
+    let size = Plan::STEP_BYTES * (flow.len as usize);
+    respliced(
+        nodes,
+        flows + 1,
+        rows,
+        records,
+        steps,
+        Cut { at, from: at, end },
+        Cut {
+            at: first,
+            from: first,
+            end: last,
+        },
+        &record_bytes(flow),
+        &plan[..size],
+    )
+}

@@ -2,7 +2,7 @@
 -- Leans on the trade's Used. Assumes nothing.
 use Prim.Native.Nat.{ℕ, zero, suc, _+_, _-_, _*_, _≤_, _<_, _^_}
 use mathlib.Core.Path.{_≡_, refl, sym, _∙_, ap, ap₂}
-use mathlib.Core.List.{List, [], _∷_, _++_, append-assoc}
+use mathlib.Core.List.{List, [], _∷_, _++_, append-nil}
 use mathlib.Core.Logic.{_⊎_, inl, inr, ⊎-elim}
 use native.Mathlib.Omega.{arith}
 use native.Mathlib.Nat.{min-eq-left}
@@ -12,6 +12,8 @@ use Rattle.trade.specs.Limits.{rowBytes, recordBytes, stepBytes, mostSteps}
 use Rattle.trade.specs.First.{sumTo}
 use Rattle.trade.specs.Bytes.{word, twoBytes}
 use Rattle.trade.specs.Layout.{Sections, field}
+use Rattle.trade.specs.Facts.{factsOf, firstStep}
+use Rattle.trade.specs.Table.{used}
 use Rattle.trade.proofs.First.{lt-or-ge}
 use Rattle.trade.proofs.Sums.{sum-next, sum-cong, sum-le}
 use Rattle.trade.proofs.Bytes.{word-front, word-behind, word-twoBytes}
@@ -32,6 +34,11 @@ pub used-spliced :
   → take at (take end src) ++ middle ++ drop from (take end src) ≡ spliced at from end middle src
 unfolding spliced
 used-spliced at from end middle src h = rw (take-take at end src h, drop-take from end src)
+
+-- and with nothing put in
+pub used-cut : (at from end : ℕ) (src : List ℕ) → at ≤ end → take at (take end src) ++ drop from (take end src) ≡ spliced at from end [] src
+used-cut at from end src h =
+    ap (λ (l : List ℕ). l ++ drop from (take end src)) (sym (append-nil (take at (take end src)))) ∙ used-spliced at from end [] src h
 
 -- figures with one more put in at a place
 pub sum-insert :
@@ -61,6 +68,25 @@ sum-insert f g new p (suc m) h before here after = step (λ l. sum-insert f g ne
 pub word-take : (n : ℕ) (l : List ℕ) (at : ℕ) → at + 1 < n → word (take n l) at ≡ word l at
 unfolding word
 word-take n l at h = rw (getD-take n l at 0 (omega arith), getD-take n l (at + 1) 0 h)
+
+-- the length of a list cut open
+pub length-spliced :
+  (at from end : ℕ) (middle src : List ℕ)
+  → at ≤ length src
+  → end ≤ length src
+  → length (spliced at from end middle src) ≡ at + length middle + (end - from)
+unfolding spliced
+length-spliced at from end middle src h k =
+    length-append (take at src ++ middle) (take (end - from) (drop from src))
+    ∙ ap₂ (λ (a b : ℕ). a + b) (length-append (take at src) middle ∙ ap (λ (a : ℕ). a + length middle) (length-take-le at src h))
+      (length-take-le (end - from) (drop from src) (rw (length-drop from src) (omega arith)))
+
+-- where a plan starts, by the used records or by all
+pub starts-alike : (t : Sections) (p : ℕ) → p ≤ t .flows → firstStep (factsOf (used t)) p ≡ sumTo (λ i. field (t .records) i 4) p
+unfolding firstStep factsOf used field
+starts-alike t p h =
+    sum-cong (λ i. word (take (recordBytes * t .flows) (t .records)) (recordBytes * i + 2 * 4)) (λ i. word (t .records) (recordBytes * i + 2 * 4)) p
+    (λ i l. word-take (recordBytes * t .flows) (t .records) (recordBytes * i + 2 * 4) (omega arith))
 
 -- records cut open: those from place p up to another go, and others come. The fields before, in and behind the cut
 module _

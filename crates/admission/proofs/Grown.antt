@@ -20,26 +20,7 @@ use Rattle.trade.proofs.Bytes.{word-twoBytes}
 use Rattle.trade.proofs.Used.{same-sections}
 use Rattle.book.proofs.Writing.{Sized, sized}
 use Rattle.admission.specs.Change.{spliced, Cuts, Grows}
-use Rattle.admission.proofs.Growing.{used-spliced, sum-insert, word-take, before-cut, in-cut, behind-cut}
-
--- the length of a list cut open
-length-spliced :
-  (at from end : ℕ) (middle src : List ℕ)
-  → at ≤ length src
-  → end ≤ length src
-  → length (spliced at from end middle src) ≡ at + length middle + (end - from)
-unfolding spliced
-length-spliced at from end middle src h k =
-    length-append (take at src ++ middle) (take (end - from) (drop from src))
-    ∙ ap₂ (λ (a b : ℕ). a + b) (length-append (take at src) middle ∙ ap (λ (a : ℕ). a + length middle) (length-take-le at src h))
-      (length-take-le (end - from) (drop from src) (rw (length-drop from src) (omega arith)))
-
--- where a plan starts, by the used records or by all
-pub starts-alike : (t : Sections) (p : ℕ) → p ≤ t .flows → firstStep (factsOf (used t)) p ≡ sumTo (λ i. field (t .records) i 4) p
-unfolding firstStep factsOf used field
-starts-alike t p h =
-    sum-cong (λ i. word (take (recordBytes * t .flows) (t .records)) (recordBytes * i + 2 * 4)) (λ i. word (t .records) (recordBytes * i + 2 * 4)) p
-    (λ i l. word-take (recordBytes * t .flows) (t .records) (recordBytes * i + 2 * 4) (omega arith))
+use Rattle.admission.proofs.Growing.{used-spliced, length-spliced, starts-alike, sum-insert, before-cut, in-cut, behind-cut}
 
 -- a flow's record: ten bytes, the last two its L
 pub length-record : (w : Flow) → length (recordOf w) ≡ recordBytes * 1

@@ -13,3 +13,4 @@ pub mod Unique
 pub mod Splicing
 pub mod Growing
 pub mod Grown
+pub mod Shrunk

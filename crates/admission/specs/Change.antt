@@ -10,7 +10,7 @@ use Rattle.trade.specs.Layout.{Sections}
 use Rattle.trade.specs.Facts.{factsOf}
 use Rattle.trade.specs.Answers.{done, refused, isDone, firstOf, noNumber}
 use Rattle.trade.specs.Codes.{code6, code8, code9}
-use Rattle.trade.specs.Calls.{Adding, tableRules}
+use Rattle.trade.specs.Calls.{Adding, Removing, tableRules}
 use Rattle.trade.specs.Table.{InMemory}
 use Rattle.trade.specs.declared.answer.Answer.{Answer}
 use Rattle.trade.specs.declared.flow.Flow.{Flow}
@@ -58,3 +58,10 @@ pub record Grows (a : Adding) : Type 0 where
   pub place : a .place ≤ a .table .flows
   pub len : a .flow .len ≤ mostSteps
   pub plan : length (a .plan) ≡ stepBytes * mostSteps
+
+-- a table that has passed, with a flow at a place
+pub record Shrinks (r : Removing) : Type 0 where
+  pub memory : InMemory (r .table)
+  pub passed : firstOf tableRules noNumber (r .table) .code ≡ 0
+  pub few : r .table .flows ≤ mostFlows
+  pub place : r .place < r .table .flows

@@ -7,8 +7,8 @@ ghost use Rattle.trade.specs.Bytes.{over, padded};
 ghost use Rattle.trade.specs.Layout.{sections};
 ghost use Rattle.trade.specs.Table.{InMemory, tableOf, rowsRoom, recordsRoom, stepsRoom};
 ghost use Rattle.trade.specs.Answers.{firstOf, noNumber};
-ghost use Rattle.trade.specs.Calls.{recordOf, withFlow};
-ghost use Rattle.admission.specs.Change.{spliced, cutOpen, Cuts, mayAdd, mayRemove, newRules, Grows};
+ghost use Rattle.trade.specs.Calls.{recordOf, withFlow, withoutFlow};
+ghost use Rattle.admission.specs.Change.{spliced, cutOpen, Cuts, mayAdd, mayRemove, newRules, Grows, Shrinks};
 ghost use Rattle.book.specs.Table.{sectionsIn};
 use crate::bounds::bounds_of;
 use book::records::is_misfit;
@@ -206,5 +206,42 @@ fn grown<'a>(
         },
         &record_bytes(flow),
         &plan[..size],
+    )
+}
+
+// The table without the flow at a place: neither its record nor its steps.
+fn shrunk<'a>(
+    nodes: u8,
+    flows: u8,
+    rows: &'a [u8],
+    records: &'a [u8],
+    steps: &'a [u8],
+    place: usize,
+) -> Table
+    requires { ⌜ Shrinks (record { table = sections nodes flows (now rows) (now records) (now steps); place = place }) ⌝ }
+    ensures { λ r. ⌜ sectionsIn r
+        ≡ tableOf (withoutFlow (record { table = sections nodes flows (now (rows .entry)) (now (records .entry)) (now (steps .entry)); place = place })) ⌝ }
+{
+    let first = steps_before(records, place);
+    let next = steps_before(records, place + 1);
+    let last = steps_before(records, flows as usize);
+    respliced(
+        nodes,
+        flows - 1,
+        rows,
+        records,
+        steps,
+        Cut {
+            at: Flow::RECORD_BYTES * place,
+            from: Flow::RECORD_BYTES * (place + 1),
+            end: Flow::RECORD_BYTES * (flows as usize),
+        },
+        Cut {
+            at: Plan::STEP_BYTES * first,
+            from: Plan::STEP_BYTES * next,
+            end: Plan::STEP_BYTES * last,
+        },
+        &records[..0],
+        &steps[..0],
     )
 }

@@ -29,9 +29,9 @@ drop-take (suc k) (suc n) (x ∷ l) = let e : n - k ≡ suc n - suc k = omega ar
 
 -- the used part of a section, cut open
 pub used-spliced :
-  (at from end : ℕ) (middle src : List ℕ)
-  → at ≤ end
-  → take at (take end src) ++ middle ++ drop from (take end src) ≡ spliced at from end middle src
+    (at from end : ℕ) (middle src : List ℕ)
+    → at ≤ end
+    → take at (take end src) ++ middle ++ drop from (take end src) ≡ spliced at from end middle src
 unfolding spliced
 used-spliced at from end middle src h = rw (take-take at end src h, drop-take from end src)
 
@@ -42,20 +42,20 @@ used-cut at from end src h =
 
 -- figures with one more put in at a place
 pub sum-insert :
-  (f g : ℕ → ℕ) (new p m : ℕ)
-  → p ≤ m
-  → ((i : ℕ) → i < p → g i ≡ f i)
-  → g p ≡ new
-  → ((i : ℕ) → p ≤ i → i < m → g (suc i) ≡ f i)
-  → sumTo g (suc m) ≡ sumTo f m + new
+    (f g : ℕ → ℕ) (new p m : ℕ)
+    → p ≤ m
+    → ((i : ℕ) → i < p → g i ≡ f i)
+    → g p ≡ new
+    → ((i : ℕ) → p ≤ i → i < m → g (suc i) ≡ f i)
+    → sumTo g (suc m) ≡ sumTo f m + new
 unfolding sumTo
 sum-insert f g new p zero h before here after = let e : p ≡ 0 = omega arith in ap (λ (k : ℕ). 0 + k) (ap g (sym e) ∙ here)
 sum-insert f g new p (suc m) h before here after = step (λ l. sum-insert f g new p m l before here (λ i q r. after i q (omega arith))) (lt-or-ge m p)
   where
     step :
-      (p ≤ m → sumTo g (suc m) ≡ sumTo f m + new)
-      → (m < p) ⊎ (p ≤ m)
-      → sumTo g (suc (suc m)) ≡ sumTo f (suc m) + new
+        (p ≤ m → sumTo g (suc m) ≡ sumTo f m + new)
+        → (m < p) ⊎ (p ≤ m)
+        → sumTo g (suc (suc m)) ≡ sumTo f (suc m) + new
     step rest (inl l) =
         let e : suc m ≡ p = omega arith in
         ap₂ (λ (a b : ℕ). a + b) (sum-cong g f (suc m) (λ i b. before i (omega arith))) (ap g e ∙ here)
@@ -71,15 +71,15 @@ word-take n l at h = rw (getD-take n l at 0 (omega arith), getD-take n l (at + 1
 
 -- the length of a list cut open
 pub length-spliced :
-  (at from end : ℕ) (middle src : List ℕ)
-  → at ≤ length src
-  → end ≤ length src
-  → length (spliced at from end middle src) ≡ at + length middle + (end - from)
+    (at from end : ℕ) (middle src : List ℕ)
+    → at ≤ length src
+    → end ≤ length src
+    → length (spliced at from end middle src) ≡ at + length middle + (end - from)
 unfolding spliced
 length-spliced at from end middle src h k =
     length-append (take at src ++ middle) (take (end - from) (drop from src))
     ∙ ap₂ (λ (a b : ℕ). a + b) (length-append (take at src) middle ∙ ap (λ (a : ℕ). a + length middle) (length-take-le at src h))
-      (length-take-le (end - from) (drop from src) (rw (length-drop from src) (omega arith)))
+    (length-take-le (end - from) (drop from src) (rw (length-drop from src) (omega arith)))
 
 -- where a plan starts, by the used records or by all
 pub starts-alike : (t : Sections) (p : ℕ) → p ≤ t .flows → firstStep (factsOf (used t)) p ≡ sumTo (λ i. field (t .records) i 4) p
@@ -90,52 +90,52 @@ starts-alike t p h =
 
 -- records cut open: those from place p up to another go, and others come. The fields before, in and behind the cut
 module _
-  (records middle : List ℕ) (p from m come : ℕ)
-  (whole : recordBytes * m ≤ length records) (o : p ≤ from) (h : from ≤ m) (size : length middle ≡ recordBytes * come)
+    (records middle : List ℕ) (p from m come : ℕ)
+    (whole : recordBytes * m ≤ length records) (o : p ≤ from) (h : from ≤ m) (size : length middle ≡ recordBytes * come)
   where
-  length-front : length (take (recordBytes * p) records) ≡ recordBytes * p
-  length-front = length-take-le (recordBytes * p) records (omega arith)
+    length-front : length (take (recordBytes * p) records) ≡ recordBytes * p
+    length-front = length-take-le (recordBytes * p) records (omega arith)
 
-  length-two : length (take (recordBytes * p) records ++ middle) ≡ recordBytes * p + recordBytes * come
-  length-two = length-append (take (recordBytes * p) records) middle ∙ ap₂ (λ (a b : ℕ). a + b) length-front size
+    length-two : length (take (recordBytes * p) records ++ middle) ≡ recordBytes * p + recordBytes * come
+    length-two = length-append (take (recordBytes * p) records) middle ∙ ap₂ (λ (a b : ℕ). a + b) length-front size
 
-  pub before-cut :
-    (i k : ℕ)
-    → i < p
-    → k < 5
-    → field (spliced (recordBytes * p) (recordBytes * from) (recordBytes * m) middle records) i k ≡ field records i k
-  unfolding field spliced
-  before-cut i k l b =
-      let at : ℕ = recordBytes * i + 2 * k in
-      word-front (take (recordBytes * p) records ++ middle) _ at (omega (arith, length-two))
-      ∙ word-front (take (recordBytes * p) records) middle at (omega (arith, length-front))
-      ∙ word-take (recordBytes * p) records at (omega arith)
+    pub before-cut :
+        (i k : ℕ)
+        → i < p
+        → k < 5
+        → field (spliced (recordBytes * p) (recordBytes * from) (recordBytes * m) middle records) i k ≡ field records i k
+    unfolding field spliced
+    before-cut i k l b =
+        let at : ℕ = recordBytes * i + 2 * k in
+        word-front (take (recordBytes * p) records ++ middle) _ at (omega (arith, length-two))
+        ∙ word-front (take (recordBytes * p) records) middle at (omega (arith, length-front))
+        ∙ word-take (recordBytes * p) records at (omega arith)
 
-  pub in-cut :
-    (j k : ℕ)
-    → j < come
-    → k < 5
-    → field (spliced (recordBytes * p) (recordBytes * from) (recordBytes * m) middle records) (p + j) k ≡ field middle j k
-  unfolding field spliced
-  in-cut j k l b =
-      let at : ℕ = recordBytes * j + 2 * k in
-      let e : recordBytes * (p + j) + 2 * k ≡ recordBytes * p + at = omega arith in
-      word-front (take (recordBytes * p) records ++ middle) _ (recordBytes * (p + j) + 2 * k) (omega (arith, length-two))
-      ∙ ap (word (take (recordBytes * p) records ++ middle)) e
-      ∙ word-behind (take (recordBytes * p) records) middle (recordBytes * p) at length-front
+    pub in-cut :
+        (j k : ℕ)
+        → j < come
+        → k < 5
+        → field (spliced (recordBytes * p) (recordBytes * from) (recordBytes * m) middle records) (p + j) k ≡ field middle j k
+    unfolding field spliced
+    in-cut j k l b =
+        let at : ℕ = recordBytes * j + 2 * k in
+        let e : recordBytes * (p + j) + 2 * k ≡ recordBytes * p + at = omega arith in
+        word-front (take (recordBytes * p) records ++ middle) _ (recordBytes * (p + j) + 2 * k) (omega (arith, length-two))
+        ∙ ap (word (take (recordBytes * p) records ++ middle)) e
+        ∙ word-behind (take (recordBytes * p) records) middle (recordBytes * p) at length-front
 
-  pub behind-cut :
-    (j k : ℕ)
-    → from + j < m
-    → k < 5
-    → field (spliced (recordBytes * p) (recordBytes * from) (recordBytes * m) middle records) (p + come + j) k ≡ field records (from + j) k
-  unfolding field spliced
-  behind-cut j k l b =
-      let at : ℕ = recordBytes * j + 2 * k in
-      let e : recordBytes * (p + come + j) + 2 * k ≡ recordBytes * p + recordBytes * come + at = omega arith in
-      let back : recordBytes * from + at ≡ recordBytes * (from + j) + 2 * k = omega arith in
-      ap (word (take (recordBytes * p) records ++ middle ++ take (recordBytes * m - recordBytes * from) (drop (recordBytes * from) records))) e
-      ∙ word-behind (take (recordBytes * p) records ++ middle) _ (recordBytes * p + recordBytes * come) at length-two
-      ∙ word-take (recordBytes * m - recordBytes * from) (drop (recordBytes * from) records) at (omega arith)
-      ∙ word-drop records (recordBytes * from) at
-      ∙ ap (word records) back
+    pub behind-cut :
+        (j k : ℕ)
+        → from + j < m
+        → k < 5
+        → field (spliced (recordBytes * p) (recordBytes * from) (recordBytes * m) middle records) (p + come + j) k ≡ field records (from + j) k
+    unfolding field spliced
+    behind-cut j k l b =
+        let at : ℕ = recordBytes * j + 2 * k in
+        let e : recordBytes * (p + come + j) + 2 * k ≡ recordBytes * p + recordBytes * come + at = omega arith in
+        let back : recordBytes * from + at ≡ recordBytes * (from + j) + 2 * k = omega arith in
+        ap (word (take (recordBytes * p) records ++ middle ++ take (recordBytes * m - recordBytes * from) (drop (recordBytes * from) records))) e
+        ∙ word-behind (take (recordBytes * p) records ++ middle) _ (recordBytes * p + recordBytes * come) at length-two
+        ∙ word-take (recordBytes * m - recordBytes * from) (drop (recordBytes * from) records) at (omega arith)
+        ∙ word-drop records (recordBytes * from) at
+        ∙ ap (word records) back

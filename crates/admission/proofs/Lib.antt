@@ -14,3 +14,4 @@ pub mod Splicing
 pub mod Growing
 pub mod Grown
 pub mod Shrunk
+pub mod Changing

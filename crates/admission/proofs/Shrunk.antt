@@ -49,7 +49,7 @@ module _ (r : Removing) (g : Shrinks r) where
   one-plan = sum-next (λ i. field (r .table .records) i 4) (r .place)
 
   new-records :
-    withoutFlow r .records ≡ spliced (recordBytes * r .place) (recordBytes * suc (r .place)) (recordBytes * r .table .flows) [] (r .table .records)
+      withoutFlow r .records ≡ spliced (recordBytes * r .place) (recordBytes * suc (r .place)) (recordBytes * r .table .flows) [] (r .table .records)
   unfolding withoutFlow used
   new-records =
       used-cut (recordBytes * r .place) (recordBytes * suc (r .place)) (recordBytes * r .table .flows) (r .table .records) (omega (arith, g .place))
@@ -61,9 +61,9 @@ module _ (r : Removing) (g : Shrinks r) where
       (used-cut (stepBytes * starts) (stepBytes * next) (stepBytes * ends) (r .table .steps) (omega (arith, within, one-plan)))
 
   new-field :
-    (i : ℕ)
-    → field (withoutFlow r .records) i 4
-    ≡ field (spliced (recordBytes * r .place) (recordBytes * suc (r .place)) (recordBytes * r .table .flows) [] (r .table .records)) i 4
+      (i : ℕ)
+      → field (withoutFlow r .records) i 4
+      ≡ field (spliced (recordBytes * r .place) (recordBytes * suc (r .place)) (recordBytes * r .table .flows) [] (r .table .records)) i 4
   new-field i = ap (λ (l : List ℕ). field l i 4) new-records
 
   kept-before : (i : ℕ) → i < r .place → field (r .table .records) i 4 ≡ field (withoutFlow r .records) i 4
@@ -80,7 +80,7 @@ module _ (r : Removing) (g : Shrinks r) where
       (ap (λ (j : ℕ). field (withoutFlow r .records) j 4) e
       ∙ new-field (r .place + 0 + (i - r .place))
       ∙ behind-cut (r .table .records) [] (r .place) (suc (r .place)) (r .table .flows) 0 whole (omega arith) (g .place) refl (i - r .place) 4 (omega arith)
-        (omega arith)
+      (omega arith)
       ∙ ap (λ (j : ℕ). field (r .table .records) j 4) o)
 
   -- one plan less
@@ -90,7 +90,7 @@ module _ (r : Removing) (g : Shrinks r) where
       let e : r .table .flows ≡ suc (pred (r .table .flows)) = omega (arith, g .place) in
       ap (sumTo (λ i. field (r .table .records) i 4)) e
       ∙ sum-insert (λ i. field (withoutFlow r .records) i 4) (λ i. field (r .table .records) i 4) (field (r .table .records) (r .place) 4) (r .place)
-        (pred (r .table .flows)) (omega (arith, g .place)) kept-before refl kept-behind
+      (pred (r .table .flows)) (omega (arith, g .place)) kept-before refl kept-behind
 
   same-nodes : withoutFlow r .nodes ≡ r .table .nodes
   unfolding withoutFlow used
@@ -102,17 +102,26 @@ module _ (r : Removing) (g : Shrinks r) where
 
   length-records : length (withoutFlow r .records) ≤ recordBytes * withoutFlow r .flows
   length-records =
-      omega
-      (arith, ap (λ (l : List ℕ). length l) new-records
-      ∙ length-spliced (recordBytes * r .place) (recordBytes * suc (r .place)) (recordBytes * r .table .flows) [] (r .table .records)
-        (omega (arith, whole, g .place)) whole, same-flows, g .place)
+      omega (
+        arith,
+        ap (λ (l : List ℕ). length l) new-records
+            ∙ length-spliced (recordBytes * r .place) (recordBytes * suc (r .place)) (recordBytes * r .table .flows) [] (r .table .records)
+            (omega (arith, whole, g .place)) whole,
+        same-flows,
+        g .place,
+      )
 
   length-steps : length (withoutFlow r .steps) ≤ stepBytes * allSteps (factsOf (withoutFlow r))
   length-steps =
-      omega
-      (arith, ap (λ (l : List ℕ). length l) new-steps
-      ∙ length-spliced (stepBytes * starts) (stepBytes * next) (stepBytes * ends) [] (r .table .steps)
-        (omega (arith, within, one-plan, few, g .memory .steps, sizes .flows)) (omega (arith, few, g .memory .steps, sizes .flows)), shorter, one-plan, within)
+      omega (
+        arith,
+        ap (λ (l : List ℕ). length l) new-steps
+            ∙ length-spliced (stepBytes * starts) (stepBytes * next) (stepBytes * ends) [] (r .table .steps)
+            (omega (arith, within, one-plan, few, g .memory .steps, sizes .flows)) (omega (arith, few, g .memory .steps, sizes .flows)),
+        shorter,
+        one-plan,
+        within,
+      )
 
   same-rows : padded rowsRoom (take (rowBytes * withoutFlow r .nodes) (withoutFlow r .rows)) ≡ padded rowsRoom (take (rowBytes * r .table .nodes) (r .table .rows))
   unfolding withoutFlow used
@@ -120,8 +129,8 @@ module _ (r : Removing) (g : Shrinks r) where
 
   -- the sections of the table with the flow taken out are all used
   pub shrunk-sections :
-    tableOf (withoutFlow r)
-    ≡ sections (r .table .nodes) (pred (r .table .flows)) (padded rowsRoom (take (rowBytes * r .table .nodes) (r .table .rows)))
+      tableOf (withoutFlow r)
+      ≡ sections (r .table .nodes) (pred (r .table .flows)) (padded rowsRoom (take (rowBytes * r .table .nodes) (r .table .rows)))
       (padded recordsRoom (spliced (recordBytes * r .place) (recordBytes * suc (r .place)) (recordBytes * r .table .flows) [] (r .table .records)))
       (padded stepsRoom (spliced (stepBytes * starts) (stepBytes * next) (stepBytes * ends) [] (r .table .steps)))
   unfolding tableOf used
@@ -134,7 +143,7 @@ module _ (r : Removing) (g : Shrinks r) where
   room-for-rows = (omega (arith, g .memory .rows, sizes .nodes), omega (arith, sizes .nodes))
 
   pub record-cut :
-    Cuts (record { at = recordBytes * r .place; from = recordBytes * (r .place + 1); end = recordBytes * r .table .flows }) [] (r .table .records) recordsRoom
+      Cuts (record { at = recordBytes * r .place; from = recordBytes * (r .place + 1); end = recordBytes * r .table .flows }) [] (r .table .records) recordsRoom
   record-cut =
       record {
         ordered = omega arith;
@@ -144,26 +153,26 @@ module _ (r : Removing) (g : Shrinks r) where
       }
 
   module _ (first second last : ℕ)
-    (from : first ≡ starts) (over : second ≡ sumTo (λ i. field (r .table .records) i 4) (r .place + 1)) (to : last ≡ ends)
+      (from : first ≡ starts) (over : second ≡ sumTo (λ i. field (r .table .records) i 4) (r .place + 1)) (to : last ≡ ends)
     where
-    second-next : second ≡ next
-    second-next = over ∙ ap (sumTo (λ i. field (r .table .records) i 4)) (add-one (r .place))
+      second-next : second ≡ next
+      second-next = over ∙ ap (sumTo (λ i. field (r .table .records) i 4)) (add-one (r .place))
 
-    pub plan-cut :
-      Cuts (record { at = stepBytes * first; from = stepBytes * second; end = stepBytes * last }) [] (r .table .steps) stepsRoom
-    plan-cut =
-        record {
-          ordered = omega (arith, from, second-next, one-plan);
-          within = omega (arith, second-next, to, within);
-          ends = omega (arith, to, few, g .memory .steps, sizes .flows);
-          fits = omega (arith, from, second-next, to, within, one-plan, few, sizes .flows);
-        }
+      pub plan-cut :
+          Cuts (record { at = stepBytes * first; from = stepBytes * second; end = stepBytes * last }) [] (r .table .steps) stepsRoom
+      plan-cut =
+          record {
+            ordered = omega (arith, from, second-next, one-plan);
+            within = omega (arith, second-next, to, within);
+            ends = omega (arith, to, few, g .memory .steps, sizes .flows);
+            fits = omega (arith, from, second-next, to, within, one-plan, few, sizes .flows);
+          }
 
-    pub shrunk-as :
-      sections (r .table .nodes) (r .table .flows - 1) (padded rowsRoom (take (rowBytes * r .table .nodes) (r .table .rows)))
-      (padded recordsRoom (spliced (recordBytes * r .place) (recordBytes * (r .place + 1)) (recordBytes * r .table .flows) [] (r .table .records)))
-      (padded stepsRoom (spliced (stepBytes * first) (stepBytes * second) (stepBytes * last) [] (r .table .steps)))
-      ≡ tableOf (withoutFlow r)
-    shrunk-as =
-        let e : r .table .flows - 1 ≡ pred (r .table .flows) = omega arith in
-        rw (from, second-next, to, add-one (r .place), e) (sym shrunk-sections)
+      pub shrunk-as :
+          sections (r .table .nodes) (r .table .flows - 1) (padded rowsRoom (take (rowBytes * r .table .nodes) (r .table .rows)))
+          (padded recordsRoom (spliced (recordBytes * r .place) (recordBytes * (r .place + 1)) (recordBytes * r .table .flows) [] (r .table .records)))
+          (padded stepsRoom (spliced (stepBytes * first) (stepBytes * second) (stepBytes * last) [] (r .table .steps)))
+          ≡ tableOf (withoutFlow r)
+      shrunk-as =
+          let e : r .table .flows - 1 ≡ pred (r .table .flows) = omega arith in
+          rw (from, second-next, to, add-one (r .place), e) (sym shrunk-sections)

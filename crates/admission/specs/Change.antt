@@ -1,6 +1,6 @@
 -- Bytes with a part exchanged, and what a change of a table owes. Leans on the trade's calls.
 use Prim.Native.Nat.{ℕ, _+_, _-_, _*_, _≤_, _<_}
-use mathlib.Core.Bool.{cond}
+use mathlib.Core.Bool.{Bool, cond}
 use mathlib.Core.List.{List, [], _∷_, _++_}
 use lib.Dec.{eqb, leb, ltb}
 use lib.ListN.{length, take, drop}
@@ -10,12 +10,14 @@ use Rattle.trade.specs.Layout.{Sections}
 use Rattle.trade.specs.Facts.{factsOf}
 use Rattle.trade.specs.Answers.{done, refused, isDone, firstOf, noNumber}
 use Rattle.trade.specs.Codes.{code6, code8, code9}
-use Rattle.trade.specs.Calls.{Adding, Removing, tableRules}
+use Rattle.trade.specs.Calls.{Adding, Removing, tableRules, addOf, removeOf}
 use Rattle.trade.specs.Table.{InMemory}
 use Rattle.trade.specs.declared.answer.Answer.{Answer}
 use Rattle.trade.specs.declared.flow.Flow.{Flow}
 use Rattle.book.specs.Records.{misfit}
+use Rattle.book.specs.Table.{sectionsIn}
 use Rattle.admission.specs.declared.change.Cut.{Cut}
+use Rattle.admission.specs.declared.change.Changed.{Changed}
 
 -- the bytes of src up to end, with those from `at` up to `from` exchanged for others
 unfoldable pub spliced : ℕ → ℕ → ℕ → List ℕ → List ℕ → List ℕ
@@ -32,13 +34,22 @@ pub record Cuts (c : Cut) (middle src : List ℕ) (room : ℕ) : Type 0 where
   pub ends : c .end ≤ length src
   pub fits : c .at + length middle + (c .end - c .from) ≤ room
 
+-- whether a newcomer has a field outside its range; and each of its fields fits in two bytes
+pub record Unfit (w : Flow) (is : Bool) : Type 0 where
+  pub holds : is ≡ misfit w
+  pub id : w .id < 65536
+  pub phase : w .phase < 65536
+  pub period : w .period < 65536
+  pub deadline : w .deadline < 65536
+  pub len : w .len < 65536
+
 -- the rules on the old table, 14 and 15, and the newcomer's own fields: where one is outside its range, the new table's first bad
 -- record is the newcomer
-unfoldable pub mayAdd : Sections → ℕ → Flow → Answer
-mayAdd t place w =
+unfoldable pub mayAdd : Sections → ℕ → Bool → Answer
+mayAdd t place unfit =
     cond (isDone (firstOf tableRules noNumber t))
     (cond (eqb (t .flows) mostFlows) (refused 14 0)
-    (cond (ltb (t .flows) place) (refused 15 0) (cond (misfit w) (refused 6 place) (done 0))))
+    (cond (ltb (t .flows) place) (refused 15 0) (cond unfit (refused 6 place) (done 0))))
     (firstOf tableRules noNumber t)
 
 -- the rules on the old table, and 15
@@ -65,3 +76,12 @@ pub record Shrinks (r : Removing) : Type 0 where
   pub passed : firstOf tableRules noNumber (r .table) .code ≡ 0
   pub few : r .table .flows ≤ mostFlows
   pub place : r .place < r .table .flows
+
+-- ADD and REMOVE return what their definitions say
+pub record Adds (a : Adding) (r : Changed) : Type 0 where
+  pub answer : r .answer ≡ addOf a .answer
+  pub table : sectionsIn (r .table) ≡ addOf a .table
+
+pub record Removes (a : Removing) (r : Changed) : Type 0 where
+  pub answer : r .answer ≡ removeOf a .answer
+  pub table : sectionsIn (r .table) ≡ removeOf a .table

@@ -8,7 +8,7 @@ ghost use Rattle.trade.specs.Layout.{sections};
 ghost use Rattle.trade.specs.Table.{InMemory, tableOf, rowsRoom, recordsRoom, stepsRoom};
 ghost use Rattle.trade.specs.Answers.{firstOf, noNumber};
 ghost use Rattle.trade.specs.Calls.{recordOf, withFlow, withoutFlow};
-ghost use Rattle.admission.specs.Change.{spliced, cutOpen, Cuts, mayAdd, mayRemove, newRules, Grows, Shrinks};
+ghost use Rattle.admission.specs.Change.{spliced, cutOpen, Cuts, Unfit, mayAdd, mayRemove, newRules, Grows, Shrinks, Adds, Removes};
 ghost use Rattle.book.specs.Table.{sectionsIn};
 use crate::bounds::bounds_of;
 use book::records::is_misfit;
@@ -99,6 +99,19 @@ fn record_bytes(f: Flow) -> [u8; Flow::RECORD_BYTES]
     ]
 }
 
+// Whether a newcomer has a field outside its range. Every field fits in two bytes.
+fn is_unfit(id: u16, phase: u16, period: u16, deadline: u16, len: u16) -> bool
+    ensures { λ r. ⌜ Unfit (record { id = id; phase = phase; period = period; deadline = deadline; len = len }) r ⌝ }
+{
+    is_misfit(Flow {
+        id,
+        phase,
+        period,
+        deadline,
+        len,
+    })
+}
+
 // Codes 3, 5, 6 and 8 on the old table, then 14 and 15; then the newcomer's own fields, before anything is moved.
 fn may_add<'a>(
     nodes: usize,
@@ -107,10 +120,10 @@ fn may_add<'a>(
     records: &'a [u8],
     steps: &'a [u8],
     place: usize,
-    flow: Flow,
+    unfit: bool,
 ) -> Answer
     requires { ⌜ InMemory (sections nodes flows (now rows) (now records) (now steps)) ⌝ }
-    ensures { λ r. ⌜ r ≡ mayAdd (sections nodes flows (now (rows .entry)) (now (records .entry)) (now (steps .entry))) place flow ⌝ }
+    ensures { λ r. ⌜ r ≡ mayAdd (sections nodes flows (now (rows .entry)) (now (records .entry)) (now (steps .entry))) place unfit ⌝ }
 {
     let tested = table_answer(nodes, flows, rows, records, steps);
     if tested.code != 0 {
@@ -122,7 +135,7 @@ fn may_add<'a>(
     if flows < place {
         return Answer::refused(15, 0);
     }
-    if is_misfit(flow) {
+    if unfit {
         return Answer::refused(6, place as u64);
     }
     Answer::done(0)
@@ -244,4 +257,73 @@ fn shrunk<'a>(
         &records[..0],
         &steps[..0],
     )
+}
+
+// ADD a flow at a place: codes 3, 5, 6 and 8 on the old table, 14, 15, then 6 and 8 and 9 on the new one. Refused, the table as
+// handed in.
+pub fn add(t: Table, place: usize, flow: Flow, plan: [u8; Plan::MOST * Plan::STEP_BYTES]) -> Changed
+    ensures { λ r. ⌜ Adds (record { table = sectionsIn t; place = place; flow = flow; plan = plan }) r ⌝ }
+{
+    let unfit = is_unfit(flow.id, flow.phase, flow.period, flow.deadline, flow.len);
+    let tested = may_add(
+        t.nodes as usize,
+        t.flows as usize,
+        &t.rows,
+        &t.records,
+        &t.steps,
+        place,
+        unfit,
+    );
+    if tested.code != 0 {
+        return Changed {
+            answer: tested,
+            table: t,
+        };
+    }
+    let new = grown(
+        t.nodes,
+        t.flows,
+        &t.rows,
+        &t.records,
+        &t.steps,
+        place,
+        flow,
+        &plan,
+    );
+    let answer = new_answer(
+        new.nodes as usize,
+        new.flows as usize,
+        &new.rows,
+        &new.records,
+        &new.steps,
+    );
+    if answer.code != 0 {
+        return Changed { answer, table: t };
+    }
+    Changed { answer, table: new }
+}
+
+// REMOVE the flow at a place: codes 3, 5, 6 and 8, then 15. Refused, the table as handed in.
+pub fn remove(t: Table, place: usize) -> Changed
+    ensures { λ r. ⌜ Removes (record { table = sectionsIn t; place = place }) r ⌝ }
+{
+    let tested = may_remove(
+        t.nodes as usize,
+        t.flows as usize,
+        &t.rows,
+        &t.records,
+        &t.steps,
+        place,
+    );
+    if tested.code != 0 {
+        return Changed {
+            answer: tested,
+            table: t,
+        };
+    }
+    let table = shrunk(t.nodes, t.flows, &t.rows, &t.records, &t.steps, place);
+    Changed {
+        answer: tested,
+        table,
+    }
 }

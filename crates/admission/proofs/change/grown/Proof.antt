@@ -69,10 +69,13 @@ respliced-requires c κs =
     let b = c .before .before .before .before .before .before .before .before .before .before in
     let bytes = c .before .before .record-bytes in
     let first = c .before .before .before .before .before .steps-before in
-    let last = c .before .before .before .before .steps-before2 in
-    (room-for-rows _ (b .pre) (bytes .result) (first .result) (last .result) (bytes .ensures) (first .ensures .0) (last .ensures .0),
-    (record-cut _ (b .pre) (bytes .result) (first .result) (last .result) (bytes .ensures) (first .ensures .0) (last .ensures .0),
-    plan-cut _ (b .pre) (bytes .result) (first .result) (last .result) (bytes .ensures) (first .ensures .0) (last .ensures .0)))
+    let last = c .before .before .before .before .steps-before2 in (
+      room-for-rows _ (b .pre) (bytes .result) (first .result) (last .result) (bytes .ensures) (first .ensures .0) (last .ensures .0),
+      (
+        record-cut _ (b .pre) (bytes .result) (first .result) (last .result) (bytes .ensures) (first .ensures .0) (last .ensures .0),
+        plan-cut _ (b .pre) (bytes .result) (first .result) (last .result) (bytes .ensures) (first .ensures .0) (last .ensures .0),
+      ),
+    )
 
 -- src/change.rt:177:1
 returns : tie.Need-returns

@@ -13,7 +13,6 @@ use Rattle.admission.proofs.change.may_add.Statement.{statement}
 use Rattle.admission.proofs.change.may_add.Tie as tie
 use Rattle.admission.proofs.change.may_add.Reads as reads
 use Rattle.admission.proofs.change.may_add.Lts as lts
-use Rattle.book.proofs.records.is_misfit.Reads as is-misfit-reads
 use Rattle.book.proofs.table.table_answer.Reads as table-answer-reads
 use Rattle.trade.proofs.answer.Answer.done.Reads as done-reads
 use Rattle.trade.proofs.answer.Answer.refused.Reads as refused-reads
@@ -54,10 +53,6 @@ returns-3 c =
     c .refused2 .ensures
     ∙ rw (passes (c .before .before .before), ne-eqb _ _ (c .before .before .if2 .left), lt-ltb _ _ (c .before .if3 .taken))
 
--- src/change.rt:123:8
-is-misfit-requires : tie.Need-is-misfit-requires
-is-misfit-requires c κs = search needs
-
 -- src/change.rt:124:9
 refused-requires-3 : tie.Need-refused-requires-3
 refused-requires-3 c κs = search needs
@@ -68,7 +63,7 @@ unfolding mayAdd
 returns-4 c =
     c .refused3 .ensures
     ∙ rw
-    (passes (c .before .before .before .before .before), ne-eqb _ _ (c .before .before .before .before .if2 .left), le-ltb _ _ (c .before .before .before .if3 .left), sym (c .before .before .is-misfit .ensures) ∙ c .before .if4 .taken)
+    (passes (c .before .before .before .before), ne-eqb _ _ (c .before .before .before .if2 .left), le-ltb _ _ (c .before .before .if3 .left), c .before .if4 .taken)
 
 -- src/change.rt:126:5
 done-requires : tie.Need-done-requires
@@ -80,7 +75,7 @@ unfolding mayAdd
 returns-5 c =
     c .done .ensures
     ∙ rw
-    (passes (c .before .before .before .before .before), ne-eqb _ _ (c .before .before .before .before .if2 .left), le-ltb _ _ (c .before .before .before .if3 .left), sym (c .before .before .is-misfit .ensures) ∙ c .before .if4 .left)
+    (passes (c .before .before .before .before), ne-eqb _ _ (c .before .before .before .if2 .left), le-ltb _ _ (c .before .before .if3 .left), c .before .if4 .left)
 
 pub may-add-spec : {M : Type 1} → statement M
 may-add-spec =
@@ -92,7 +87,6 @@ may-add-spec =
     returns-2
     refused-requires-2
     returns-3
-    is-misfit-requires
     refused-requires-3
     returns-4
     done-requires

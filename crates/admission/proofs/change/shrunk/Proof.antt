@@ -71,9 +71,10 @@ respliced-requires c κs =
     let b = c .before .before .before .before .before .before .before .before in
     let first = c .before .before .before .before .steps-before in
     let next = c .before .before .before .steps-before2 in
-    let last = c .before .before .steps-before3 in
-    (room-for-rows _ (b .pre),
-    (record-cut _ (b .pre), plan-cut _ (b .pre) (first .result) (next .result) (last .result) (first .ensures .0) (next .ensures .0) (last .ensures .0)))
+    let last = c .before .before .steps-before3 in (
+      room-for-rows _ (b .pre),
+      (record-cut _ (b .pre), plan-cut _ (b .pre) (first .result) (next .result) (last .result) (first .ensures .0) (next .ensures .0) (last .ensures .0)),
+    )
 
 -- src/change.rt:213:1
 returns : tie.Need-returns

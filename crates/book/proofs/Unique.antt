@@ -88,7 +88,7 @@ pub steps-of-unique : (κs : _) (a : _) (r r' : _) (s s' : _) → steps-of.Post 
 steps-of-unique κs a r r' s s' p q = one-result p q
 
 -- a table is its counts and sections
-same-table : (t u : Table) → sectionsIn t ≡ sectionsIn u → t ≡ u
+pub same-table : (t u : Table) → sectionsIn t ≡ sectionsIn u → t ≡ u
 same-table t u e = λ i. record { nodes = e i .nodes; flows = e i .flows; rows = e i .rows; records = e i .records; steps = e i .steps }
 
 pub empty-unique : OneResult 0 empty-kinds.ps empty-kinds.r empty.Post

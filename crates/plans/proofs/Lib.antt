@@ -4,3 +4,4 @@ pub mod Bits
 pub mod Holding
 pub mod Unique
 pub mod Parts
+pub mod Held

@@ -15,8 +15,6 @@ use denote.Triple.Clauses.{Ended, AtExit, Clauses, ensured, closing}
 use denote.Triple.Entry.{Args, Res}
 use denote.Triple.Spec.{Spec}
 use Rattle.trade.proofs.Unique.{OneResult, one-result}
-use Rattle.plans.specs.Line.{stepsIn}
-use Rattle.plans.specs.Plan.{stepOr}
 use Rattle.plans.proofs.Callee.{clause}
 use Rattle.plans.proofs.steps.step_at.Kinds as step-at-kinds
 use Rattle.plans.proofs.steps.step_at.Reads as step-at
@@ -104,7 +102,7 @@ module _ {M : Type 1} (𝓤 : URA M) (H : Heap 𝓤) (A : Atoms 𝓤) (mem : Mem
       (λ κs a g r e. fact-mono 𝓤 (r .steps ≡ a .0) (r ≡ record { steps = a .0 }) (λ p i. record { steps = p i }))
 
   pub view-len-unique : OneAnswer 𝓤 view-len.signature (view-len.spec 𝓤 H A mem run)
-  view-len-unique = one-answer 𝓤 H A view-len.ended (view-len.clauses 𝓤 H A mem run) (λ κs a. stepsIn (now (a .0 .steps))) (λ κs a g r e. id⊢ 𝓤 _)
+  view-len-unique = one-answer 𝓤 H A view-len.ended (view-len.clauses 𝓤 H A mem run) _ (λ κs a g r e. id⊢ 𝓤 _)
 
   pub view-step-unique : OneAnswer 𝓤 view-step.signature (view-step.spec 𝓤 H A mem run)
-  view-step-unique = one-answer 𝓤 H A view-step.ended (view-step.clauses 𝓤 H A mem run) (λ κs a. stepOr (now (a .0 .steps)) (a .1 .0)) (λ κs a g r e. id⊢ 𝓤 _)
+  view-step-unique = one-answer 𝓤 H A view-step.ended (view-step.clauses 𝓤 H A mem run) _ (λ κs a g r e. id⊢ 𝓤 _)

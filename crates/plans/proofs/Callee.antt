@@ -41,6 +41,9 @@ module _ {M : Type 1} {𝓤 : URA M} {H : Heap 𝓤} {A : Atoms 𝓤} {K : Type 
   answers t z T c y u φ says k =
       let κs = y .0 .0 in
       let R = typeAt (T .signature .result) κs in
-      use1 W (later (some (λ (r : Res (T .signature) κs). (raw (alive 𝓤 H A (T .signature) κs (y .0 .1)) ⊛ ‵ (R .own r (u ∷ []))) ⊛ raw (ensured 𝓤 H A T c κs (y .0 .3) (y .1) r)))) (id⊢ 𝓤 _) $ await t z $ pick t (λ r.
-      split t $ move t (1 ∷ []) $ use1 W (raw (fact 𝓤 (φ r))) (clause 𝓤 H A T c κs (y .0 .3) (y .1) r (φ r) (says r)) $ heard t (φ r) (λ e. split t $ move t (1 ∷ []) $
+      use1 W (later (some (λ (r : Res (T .signature) κs). (raw (alive 𝓤 H A (T .signature) κs (y .0 .1)) ⊛ ‵ (R .own r (u ∷ [])))
+      ⊛ raw (ensured 𝓤 H A T c κs (y .0 .3) (y .1) r)))) (id⊢ 𝓤 _) $
+      await t z $ pick t (λ r.
+      split t $ move t (1 ∷ []) $ use1 W (raw (fact 𝓤 (φ r))) (clause 𝓤 H A T c κs (y .0 .3) (y .1) r (φ r) (says r)) $ heard t (φ r) (λ e. split t $
+      move t (1 ∷ []) $
       peeks t R (Is R) (shows 𝓤 H A R) r (u ∷ []) (λ is. k r e is)))

@@ -93,9 +93,9 @@ module _ (steps : List ℕ) (first count : ℕ) where
   plan-past h = rw (drop-of-length-le steps {i = stepBytes * first} (omega arith)) (sym (take-nil (stepBytes * count)))
 
   -- the step at any place of it is that of the section, or none
-  pub plan-step : (j : ℕ) → stepOr plan j ≡ planStep steps first count j
+  pub step-anywhere : (j : ℕ) → stepOr plan j ≡ planStep steps first count j
   unfolding planStep
-  plan-step j =
+  step-anywhere j =
       ⊎-elim
       (λ (l : j < count).
       ⊎-elim

@@ -40,7 +40,7 @@ use Rattle.trade.proofs.node.Transmission as S
 use Rattle.trade.proofs.node.Transmission.Laws as S′
 use Rattle.plans.specs.Plan.{planIn, stepOr, planStep}
 use Rattle.plans.specs.declared.view.PlanView.{PlanView}
-use Rattle.plans.proofs.Parts.{plan-step}
+use Rattle.plans.proofs.Parts.{step-anywhere}
 use Rattle.plans.proofs.Callee.{answers}
 use Rattle.plans.proofs.Held.{Row}
 use Rattle.plans.proofs.view.PlanView as T
@@ -58,11 +58,11 @@ use Rattle.plans.proofs.view.view_step.Symbol as view-step-def
 use Rattle.plans.proofs.view.view_step.Symbol.{name as #plans·view·view-step}
 use Rattle.plans.proofs.view.view_step.Met as view-step-thm
 use Rattle.plans.proofs.view.plan_step.Key.{name as #plans·view·plan-step}
-use Rattle.plans.proofs.view.plan_step as walked-fn
+use Rattle.plans.proofs.view.plan_step as plan-step
 use Rattle.plans.proofs.view.plan_step.Statement as stated
 use Rattle.plans.proofs.view.plan_step.Code as code
 
-abbrev stayed : Stays (walked-fn.ended .signature .params) (walked-fn.ended .kept)
+abbrev stayed : Stays (plan-step.ended .signature .params) (plan-step.ended .kept)
 stayed = (
   stay-none-slice (0 ∷ []) tt (plain (λ _. u8)) yes,
   (stay-none (λ _. usize) yes, (stay-none (λ _. usize) yes, (stay-none (λ _. usize) yes, tt))),
@@ -79,7 +79,8 @@ module _ {M : Type 1} (𝓤 : URA M) (H : Heap 𝓤) (A : Atoms 𝓤) (mem : Mem
   abbrev ViewStep : Contract 𝓤
   ViewStep = tripleOf 𝓤 H A view-step.signature (view-step.spec 𝓤 H A mem run)
 
-module _ {M : Type 1} (𝓤 : URA M) (H : Heap 𝓤) (A : Atoms 𝓤) (W : Given 𝓤 H A) (mem : Memory → SProp 𝓤) (run : Routine → Fun 𝓤) (κ : Lft) (q : Share) (s : RefT (List ℕ)) (f c j : ℕ) (f-fits : f < 2 ^ 64) (c-fits : c < 2 ^ 64) (j-fits : j < 2 ^ 64) where
+module _ {M : Type 1} (𝓤 : URA M) (H : Heap 𝓤) (A : Atoms 𝓤) (W : Given 𝓤 H A) (mem : Memory → SProp 𝓤) (run : Routine → Fun 𝓤)
+    (κ : Lft) (q : Share) (s : RefT (List ℕ)) (f c j : ℕ) (f-fits : f < 2 ^ 64) (c-fits : c < 2 ^ 64) (j-fits : j < 2 ^ 64) where
   -- the machine value of the section
   abbrev v : Val
   v = sliceVal (s .ptr) (length (s .now))
@@ -91,14 +92,14 @@ module _ {M : Type 1} (𝓤 : URA M) (H : Heap 𝓤) (A : Atoms 𝓤) (W : Given
   abbrev αᵉ : NamedLft
   αᵉ = record { mir = erased; lft = κ }
 
-  abbrev args : Args walked-fn.signature (κ, tt)
+  abbrev args : Args plan-step.signature (κ, tt)
   args = (s, (f, (c, (j, tt))))
 
-  abbrev vals : Vals walked-fn.signature (κ, tt)
+  abbrev vals : Vals plan-step.signature (κ, tt)
   vals = (v ∷ [], (vint w64 f ∷ [], (vint w64 c ∷ [], (vint w64 j ∷ [], tt))))
 
   abbrev Post : Val → SProp 𝓤
-  Post = walkOf 𝓤 H A walked-fn.ended stayed (walked-fn.clauses 𝓤 H A mem run) .post (((κ, tt), (q, tt), tt, args, vals), tt)
+  Post = walkOf 𝓤 H A plan-step.ended stayed (plan-step.clauses 𝓤 H A mem run) .post (((κ, tt), (q, tt), tt, args, vals), tt)
 
   abbrev Own : Fml
   Own = Part .own s (v ∷ [])
@@ -113,10 +114,11 @@ module _ {M : Type 1} (𝓤 : URA M) (H : Heap 𝓤) (A : Atoms 𝓤) (W : Given
   asked : ent 𝓤 (onEntry 𝓤 H A plan-part.signature (κ, tt) (q, tt) (s, (f, (c, tt))) passed) (PlanPart 𝓤 H A mem run .pre to-part)
   asked = qed W ((‵ (flft κ q) ⊛ ‵ ftrue) ∷ ‵ (owns (Part ∷ usize ∷ usize ∷ []) (s, (f, (c, tt))) passed) ∷ []) ∵ join ! $ frame ! $ done !
 
-  goes-part : ent 𝓤 (onEntry 𝓤 H A walked-fn.signature (κ, tt) (q, tt) args vals) (sep 𝓤 (PlanPart 𝓤 H A mem run .pre to-part) (sem 𝓤 H A Own))
+  goes-part : ent 𝓤 (onEntry 𝓤 H A plan-step.signature (κ, tt) (q, tt) args vals) (sep 𝓤 (PlanPart 𝓤 H A mem run .pre to-part) (sem 𝓤 H A Own))
   goes-part =
       qed W ((‵ (flft κ q) ⊛ ‵ ftrue) ∷ ‵ (owns (Part ∷ usize ∷ usize ∷ usize ∷ []) args vals) ∷ []) ∵
-      move ! (1 ∷ []) $ fsplit ! $ move ! (1 ∷ []) $ drop ! $ use1 W (‵ Own ⊛ ‵ Own) (shr-slice-copy 𝓤 H A W (named 0) κ u8 .twice s (v ∷ [])) $ split ! $
+      move ! (1 ∷ []) $ fsplit ! $ move ! (1 ∷ []) $ drop ! $ use1 W (‵ Own ⊛ ‵ Own) (shr-slice-copy 𝓤 H A W (named 0) κ u8 .twice s (v ∷ [])) $
+      split ! $
       nothing ! $ owned ! usize (Is usize) (uint-makes 𝓤 H A W w64) c _ (refl, c-fits) $ fjoin ! $
       owned ! usize (Is usize) (uint-makes 𝓤 H A W w64) f _ (refl, f-fits) $ fjoin ! $ move ! (1 ∷ 0 ∷ []) $ fjoin ! $
       move ! (2 ∷ 0 ∷ []) $ use2 W (raw (PlanPart 𝓤 H A mem run .pre to-part)) asked $ frame ! $ done !
@@ -125,7 +127,9 @@ module _ {M : Type 1} (𝓤 : URA M) (H : Heap 𝓤) (A : Atoms 𝓤) (W : Given
   abbrev to-of : RefT (List ℕ) → Val → ViewOf 𝓤 H A mem run .Ghost
   to-of r u = (((κ, tt), (q, tt), tt, (r, tt), (u ∷ [], tt)), tt)
 
-  goes-of : (r : RefT (List ℕ)) (u : Val) → ent 𝓤 (⋆ 𝓤 H A (‵ (Part .own r (u ∷ [])) ∷ (‵ (flft κ q) ⊛ ‵ ftrue) ∷ [])) (ViewOf 𝓤 H A mem run .pre (to-of r u))
+  goes-of :
+      (r : RefT (List ℕ)) (u : Val)
+      → ent 𝓤 (⋆ 𝓤 H A (‵ (Part .own r (u ∷ [])) ∷ (‵ (flft κ q) ⊛ ‵ ftrue) ∷ [])) (ViewOf 𝓤 H A mem run .pre (to-of r u))
   goes-of r u =
       qed W (‵ (Part .own r (u ∷ [])) ∷ (‵ (flft κ q) ⊛ ‵ ftrue) ∷ []) ∵
       nothing ! $ move ! (1 ∷ 0 ∷ []) $ fjoin ! $ move ! (1 ∷ 0 ∷ []) $ join ! $ frame ! $ done !
@@ -150,27 +154,40 @@ module _ {M : Type 1} (𝓤 : URA M) (H : Heap 𝓤) (A : Atoms 𝓤) (W : Given
       → t ≡ stepOr (now (d .steps)) j
       → t ≡ planStep (now s) f c j
   found r d t cut held read =
-      read ∙ (ap (λ (x : RefT (List ℕ)). stepOr (now x) j) held ∙ (ap (λ (l : List ℕ). stepOr l j) cut ∙ plan-step (now s) f c j))
+      read ∙ (ap (λ (x : RefT (List ℕ)). stepOr (now x) j) held ∙ (ap (λ (l : List ℕ). stepOr l j) cut ∙ step-anywhere (now s) f c j))
 
-  exits : (t : Transmission) (x : Val) → t ≡ planStep (now s) f c j → ent 𝓤 (⋆ 𝓤 H A (‵ (S.the-row .own t (x ∷ [])) ∷ (‵ (flft κ q) ⊛ ‵ ftrue) ∷ ‵ Own ∷ [])) (Post x)
+  exits :
+      (t : Transmission) (x : Val)
+      → t ≡ planStep (now s) f c j
+      → ent 𝓤 (⋆ 𝓤 H A (‵ (S.the-row .own t (x ∷ [])) ∷ (‵ (flft κ q) ⊛ ‵ ftrue) ∷ ‵ Own ∷ [])) (Post x)
   exits t x e =
       qed W (‵ (S.the-row .own t (x ∷ [])) ∷ (‵ (flft κ q) ⊛ ‵ ftrue) ∷ ‵ Own ∷ []) ∵
-      suffices ! _ (ends-at 𝓤 H A walked-fn.ended stayed (walked-fn.clauses 𝓤 H A mem run) W (((κ, tt), (q, tt), tt, args, vals), tt) x t (tt, (tt, (tt, (tt, tt)))) (tt, (tt, (tt, (tt, tt))))) $ says ! e $
+      suffices ! _ (ends-at 𝓤 H A plan-step.ended stayed (plan-step.clauses 𝓤 H A mem run) W
+      (((κ, tt), (q, tt), tt, args, vals), tt) x t (tt, (tt, (tt, (tt, tt)))) (tt, (tt, (tt, (tt, tt))))) $
+      says ! e $
       move ! (1 ∷ []) $ frame ! $ nothing ! $ owned ! usize (Is usize) (uint-makes 𝓤 H A W w64) j _ (refl, j-fits) $ fjoin ! $
       owned ! usize (Is usize) (uint-makes 𝓤 H A W w64) c _ (refl, c-fits) $ fjoin ! $
       owned ! usize (Is usize) (uint-makes 𝓤 H A W w64) f _ (refl, f-fits) $ fjoin ! $ move ! (2 ∷ 0 ∷ []) $ fjoin ! $ frame ! $ done !
 
-  module _ (C : Calls 𝓤 H) (Λ : Loops 𝓤 H) (fm : FmC 𝓤 H (W .laws) C) (known-part : Triple 𝓤 (C #plans·steps·plan-part) (PlanPart 𝓤 H A mem run)) (known-of : Triple 𝓤 (C #plans·view·view-of) (ViewOf 𝓤 H A mem run)) (known-step : Triple 𝓤 (C #plans·view·view-step) (ViewStep 𝓤 H A mem run)) where
-    walk : Is Part s (v ∷ []) → ent 𝓤 (onEntry 𝓤 H A walked-fn.signature (κ, tt) (q, tt) args vals) (WpFn 𝓤 H C Λ code.function (v ∷ vint w64 f ∷ vint w64 c ∷ vint w64 j ∷ []) Post)
+  module _ (C : Calls 𝓤 H) (Λ : Loops 𝓤 H) (fm : FmC 𝓤 H (W .laws) C) (known-part : Triple 𝓤 (C #plans·steps·plan-part) (PlanPart 𝓤 H A mem run))
+      (known-of : Triple 𝓤 (C #plans·view·view-of) (ViewOf 𝓤 H A mem run))
+      (known-step : Triple 𝓤 (C #plans·view·view-step) (ViewStep 𝓤 H A mem run)) where
+    walk :
+        Is Part s (v ∷ [])
+        → ent 𝓤 (onEntry 𝓤 H A plan-step.signature (κ, tt) (q, tt) args vals)
+        (WpFn 𝓤 H C Λ code.function (v ∷ vint w64 f ∷ vint w64 c ∷ vint w64 j ∷ []) Post)
     walk p =
-        qed W (raw (onEntry 𝓤 H A walked-fn.signature (κ, tt) (q, tt) args vals) ∷ []) ∵ enter ! C Λ code.function (v ∷ vint w64 f ∷ vint w64 c ∷ vint w64 j ∷ []) _ $
+        qed W (raw (onEntry 𝓤 H A plan-step.signature (κ, tt) (q, tt) args vals) ∷ []) ∵
+        enter ! C Λ code.function (v ∷ vint w64 f ∷ vint w64 c ∷ vint w64 j ∷ []) _ $
         alloc1 ! (λ l₀. alloc1 ! (λ l₁. alloc1 ! (λ l₂. alloc1 ! (λ l₃. alloc1 ! (λ l₄. alloc1 ! (λ l₅. alloc1 ! (λ l₆. alloc0 ! $ params1 ! $
-        pass1 ! (init ! 10 refl (shr-slice-lawful 𝓤 H A W (named 0) κ u8 .typed s (v ∷ []) p .0)) $ pass1 ! (init ! 8 refl (tt, record { fits = f-fits })) $
+        pass1 ! (init ! 10 refl (shr-slice-lawful 𝓤 H A W (named 0) κ u8 .typed s (v ∷ []) p .0)) $
+        pass1 ! (init ! 8 refl (tt, record { fits = f-fits })) $
         pass1 ! (init ! 6 refl (tt, record { fits = c-fits })) $ pass1 ! (init ! 4 refl (tt, record { fits = j-fits })) $ pass0 ! $
         -- [_6; …; _5; …; _4; …; _3; …; _2; …; _1; …; room for _0; …; what is had at entry]
         move ! (14 ∷ []) $ use1 W (raw (PlanPart 𝓤 H A mem run .pre to-part) ⊛ ‵ Own) goes-part $ split ! $
         calls-at ! fm (PlanPart 𝓤 H A mem run) known-part to-part
-        (and-then ! (load ! (from ! (stop !)) (look ! 12 refl)) (and-then ! (load ! (from ! (stop !)) (look ! 10 refl)) (and-then ! (load ! (from ! (stop !)) (look ! 8 refl)) (no-more !)))) (λ u.
+        (and-then ! (load ! (from ! (stop !)) (look ! 12 refl))
+        (and-then ! (load ! (from ! (stop !)) (look ! 10 refl)) (and-then ! (load ! (from ! (stop !)) (look ! 8 refl)) (no-more !)))) (λ u.
         answers ! tt plan-part.ended (plan-part.clauses 𝓤 H A mem run) to-part u (λ r. now r ≡ planIn (now s) f c) (λ r e. id⊢ 𝓤 _) (λ r cut is₀.
         -- [what the part owns; the token; what the section owns; room for _6; …; _5; …]
         land ! (from ! (stop !)) (init ! 3 refl (shr-slice-lawful 𝓤 H A W (named 0) κ u8 .typed r (u ∷ []) is₀ .0)) $
@@ -180,11 +197,13 @@ module _ {M : Type 1} (𝓤 : URA M) (H : Heap 𝓤) (A : Atoms 𝓤) (W : Given
         -- [what the view owns; the token; what the section owns; _6; …; room for _5; …]
         land ! (from ! (stop !)) (init ! 5 refl (LL.lawful (T.the-type αᵉ) (T′.the-laws αᵉ) 𝓤 H A W .typed d _ is₁ .0)) $
         use2 W (raw (ViewStep 𝓤 H A mem run .pre (to-step d w))) (goes-step d w) $
-        calls-at ! fm (ViewStep 𝓤 H A mem run) known-step (to-step d w) (and-then ! (load ! (from ! (stop !)) (look ! 4 refl)) (and-then ! (load ! (from ! (stop !)) (look ! 6 refl)) (no-more !))) (λ x.
+        calls-at ! fm (ViewStep 𝓤 H A mem run) known-step (to-step d w)
+        (and-then ! (load ! (from ! (stop !)) (look ! 4 refl)) (and-then ! (load ! (from ! (stop !)) (look ! 6 refl)) (no-more !))) (λ x.
         answers ! tt view-step.ended (view-step.clauses 𝓤 H A mem run) (to-step d w) x (λ t. t ≡ stepOr (now (d .steps)) j) (λ t e. id⊢ 𝓤 _) (λ t read is₂.
         -- [the result; the token; what the section owns; _6; …; _5; …; _4; …; _3; …; _2; …; _1; …; room for _0; …]
         land ! (from ! (stop !)) (init ! 15 refl (LL.lawful S.the-type S′.the-laws 𝓤 H A W .typed t _ is₂ .0)) $
-        returns ! (look ! 15 refl) $ forget ! 3 refl $ forget ! 5 refl $ forget ! 7 refl $ forget ! 9 refl $ forget ! 11 refl $ forget ! 13 refl $ forget ! 15 refl $
+        returns ! (look ! 15 refl) $ forget ! 3 refl $ forget ! 5 refl $ forget ! 7 refl $ forget ! 9 refl $ forget ! 11 refl $ forget ! 13 refl $
+        forget ! 15 refl $
         move ! (15 ∷ 16 ∷ []) $ free1 ! $ move ! (13 ∷ 14 ∷ []) $ free1 ! $ move ! (11 ∷ 12 ∷ []) $ free1 ! $ move ! (9 ∷ 10 ∷ []) $ free1 ! $
         move ! (7 ∷ 8 ∷ []) $ free1 ! $ move ! (5 ∷ 6 ∷ []) $ free1 ! $ move ! (3 ∷ 4 ∷ []) $ free1 ! $ free0 ! $
         by ! (exits t x (found r d t cut held read)))))))))))))))
@@ -194,14 +213,14 @@ plan-step-meets :
     → Triple 𝓤 (𝓣 .C #plans·steps·plan-part) (PlanPart 𝓤 H A mem run)
     → Triple 𝓤 (𝓣 .C #plans·view·view-of) (ViewOf 𝓤 H A mem run)
     → Triple 𝓤 (𝓣 .C #plans·view·view-step) (ViewStep 𝓤 H A mem run)
-    → Meets 𝓤 H A walked-fn.signature (WpFn 𝓤 H (𝓣 .C) (𝓣 .Λ) code.function) (walked-fn.spec 𝓤 H A mem run)
+    → Meets 𝓤 H A plan-step.signature (WpFn 𝓤 H (𝓣 .C) (𝓣 .Λ) code.function) (plan-step.spec 𝓤 H A mem run)
 plan-step-meets 𝓤 H A W mem run 𝓣 known-part known-of known-step =
-    let clauses = walked-fn.clauses 𝓤 H A mem run in
+    let clauses = plan-step.clauses 𝓤 H A mem run in
     let runs = WpFn 𝓤 H (𝓣 .C) (𝓣 .Λ) code.function in
     let number = goes-none 𝓤 H A W 1 (λ _. usize) yes (λ κs x f. refl) in
-    walk-meets 𝓤 H A walked-fn.ended stayed W (goes-none-slice 𝓤 H A W 1 (0 ∷ []) tt (plain (λ _. u8)) yes, (number, (number, (number, tt)))) clauses runs
+    walk-meets 𝓤 H A plan-step.ended stayed W (goes-none-slice 𝓤 H A W 1 (0 ∷ []) tt (plain (λ _. u8)) yes, (number, (number, (number, tt)))) clauses runs
     (WpFn-mono 𝓤 H (W .laws) 𝓣 code.function)
-    (walked 𝓤 H A walked-fn.ended stayed clauses runs
+    (walked 𝓤 H A plan-step.ended stayed clauses runs
     (λ κs. (slice-vals, (uint-vals w64, (uint-vals w64, (uint-vals w64, tt)))))
     (λ κs. (shr-slice-tells (named 0) (κs .0) u8, (uint-tells w64, (uint-tells w64, (uint-tells w64, tt)))))
     (λ κs qs bounds a g are. via 𝓤 _ (fst∗ 𝓤 _ (emp 𝓤))
@@ -211,7 +230,7 @@ plan-step-meets 𝓤 H A W mem run 𝓣 known-part known-of known-step =
 pub plan-step-spec : {M : Type 1} → stated.statement M
 unfolding code.routine tablesOf
 plan-step-spec 𝓤 H 𝓜 𝓖 𝓡 =
-    entered 𝓤 H (tripleOf 𝓤 H (𝓖 .A) walked-fn.signature (walked-fn.spec 𝓤 H (𝓖 .A) (𝓜 .mem) (𝓡 .run)))
+    entered 𝓤 H (tripleOf 𝓤 H (𝓖 .A) plan-step.signature (plan-step.spec 𝓤 H (𝓖 .A) (𝓜 .mem) (𝓡 .run)))
     (tables 𝓤 H 𝓜 𝓡 code.env .C) (tables 𝓤 H 𝓜 𝓡 code.env .Λ) #plans·view·plan-step code.function (code.unfolded 𝓤 H 𝓜 𝓡)
     (plan-step-meets 𝓤 H (𝓖 .A) (givenOf 𝓤 H 𝓜 𝓖) (𝓜 .mem) (𝓡 .run) (tablesOf 𝓤 H 𝓜 (tables 𝓤 H 𝓜 𝓡 code.env))
     (cited 𝓤 H (PlanPart 𝓤 H (𝓖 .A) (𝓜 .mem) (𝓡 .run)) 𝓜 𝓡 code.env #plans·steps·plan-part plan-part-def.routine code.calls-plans·steps·plan-part (plan-part-thm.met 𝓤 H 𝓜 𝓖 𝓡))

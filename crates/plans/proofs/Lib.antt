@@ -4,3 +4,5 @@ pub mod Bits
 pub mod Holding
 pub mod Unique
 pub mod Parts
+pub mod Callee
+pub mod Held

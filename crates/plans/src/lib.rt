@@ -4,3 +4,4 @@ pub mod grants;
 pub mod interference;
 pub mod mask;
 pub mod steps;
+pub mod view;

@@ -7,3 +7,4 @@ pub mod Prefix
 pub mod Advanced
 pub mod OpenBook
 pub mod Started
+pub mod Unique

@@ -1,11 +1,9 @@
 -- START: its answer by its rules in their order, and what it leaves where it is done. Leans on Advanced and Places, and on admission's
 -- Checking. Assumes nothing.
 use Prim.Native.Nat.{ℕ, _≤_, _<_}
-use mathlib.Core.Path.{_≡_, refl, sym, _∙_, ap}
-use mathlib.Core.Bool.{cond}
+use mathlib.Core.Path.{_≡_, sym, _∙_, ap}
 use mathlib.Core.Logic.{⊎-elim}
 use mathlib.Core.List.{List, [], _∷_}
-use native.Mathlib.Omega.{arith}
 use lib.ListN.{length}
 use borrow.Author.Tests.{lt-ltb, le-ltb, eq-eqb, ne-eqb}
 use Rattle.trade.specs.Limits.{mostFlows, areaBytes}
@@ -22,7 +20,7 @@ use Rattle.trade.specs.declared.run.Run.{Run}
 use Rattle.trade.proofs.First.{lt-or-ge}
 use Rattle.trade.proofs.Answers.{firstOf-refuse, firstOf-pass, firstOf-on}
 use Rattle.trade.proofs.Area.{placeByte}
-use Rattle.run.specs.States.{placeOf, stateOf, Idle}
+use Rattle.run.specs.States.{stateOf, Idle}
 use Rattle.run.specs.Calls.{Starts}
 use Rattle.run.proofs.Places.{area-same}
 use Rattle.run.proofs.Advanced.{too-short, long-enough, refuses}

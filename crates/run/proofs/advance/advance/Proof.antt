@@ -1,15 +1,14 @@
 -- `run::advance::advance` meets its contract: the rules are tested in their order, and where all pass the slot has run. Assumes nothing.
 use Prim.Native.Nat.{ℕ, _*_, _≤_, _<_}
-use mathlib.Core.Path.{_≡_, refl, sym, _∙_, ap, ap₂}
+use mathlib.Core.Path.{_≡_, sym, _∙_, ap, ap₂}
 use mathlib.Core.List.{List, []}
 use native.Mathlib.Omega.{arith}
 use denote.Ref.{now}
 use lib.ListN.{length, getD}
-use Rattle.trade.specs.Limits.{mostFlows, grantBytes}
+use Rattle.trade.specs.Limits.{grantBytes}
 use Rattle.trade.specs.Layout.{sectionsOf, field}
 use Rattle.trade.specs.Facts.{factsOf, factsIn, said}
 use Rattle.trade.specs.Area.{stateIn}
-use Rattle.trade.specs.Calls.{readAnswer}
 use Rattle.trade.specs.declared.answer.Answer.{Answer}
 use Rattle.book.specs.Frame.{openedOf}
 use Rattle.book.specs.declared.parts.Opened.{Opened}
@@ -22,19 +21,6 @@ use Rattle.run.proofs.Advanced.{refuses, read-answer, advance-refused, 
 use borrow.Author.Needs.{needs}
 use Rattle.run.proofs.advance.advance.Statement.{statement}
 use Rattle.run.proofs.advance.advance.Tie as tie
-use Rattle.run.proofs.advance.advance.Reads as reads
-use Rattle.run.proofs.advance.advance.Lts as lts
-use Rattle.book.proofs.parts.open_book.Reads as open-book-reads
-use Rattle.book.proofs.parts.records_of.Reads as records-of-reads
-use Rattle.book.proofs.parts.rows_of.Reads as rows-of-reads
-use Rattle.book.proofs.parts.steps_of.Reads as steps-of-reads
-use Rattle.run.proofs.advance.firsts_of.Reads as firsts-of-reads
-use Rattle.run.proofs.area.read_run.Reads as read-run-reads
-use Rattle.run.proofs.area.write_run.Reads as write-run-reads
-use Rattle.run.proofs.refusals.run_answer.Reads as run-answer-reads
-use Rattle.run.proofs.slot.run_slot.Reads as run-slot-reads
-use Rattle.trade.proofs.answer.Answer.done.Reads as done-reads
-use Rattle.trade.proofs.answer.Answer.refused.Reads as refused-reads
 
 -- the book passed
 opened : (c : tie.Else1) → OpenBook (now (c .before .before .before .before .before .before .before .args .book)) (c .before .before .before .open-book .result)
@@ -79,11 +65,9 @@ ran :
 unfolding said factsOf
 ran c = rw (opened (c .before .before .before .before .before .before .before .before .before .before .before .before .before .before .before) .flows, c .before .before .before .before .rows-of .ensures, c .before .before .before .before .before .before .before .before .before .before .before .records-of .ensures, c .before .before .before .steps-of .ensures) at (c .run-slot .ensures)
 
--- src/advance.rt:45:9
 open-book-requires : tie.Need-open-book-requires
 open-book-requires c κs = search needs
 
--- src/advance.rt:48:9
 returns : tie.Need-returns
 unfolding openedOf
 returns c =
@@ -93,11 +77,9 @@ returns c =
     (book-refused (now (a .book)) (now (a .area)) (now (a .grants)) (λ z. c .if1 .taken (ap (λ (r : Answer). r .code) answer ∙ z)) ∙ sym answer)
     (c .if1 .taken)
 
--- src/advance.rt:53:9
 refused-requires : tie.Need-refused-requires
 refused-requires c κs = search needs
 
--- src/advance.rt:53:9
 returns-2 : tie.Need-returns-2
 returns-2 c =
     let a = c .before .before .before .before .before .before .before .before .before .before .args in
@@ -105,15 +87,12 @@ returns-2 c =
     (area-short (now (a .book)) (now (a .area)) (now (a .grants)) (opened (c .before .before .before) .done) (c .before .if2 .taken) ∙ sym (c .refused .ensures))
     (refuses 12 0 (c .refused .ensures))
 
--- src/advance.rt:55:23
 mul-if3 : tie.Need-mul-if3
 mul-if3 c = omega (arith, opened (c .before .before) .lies .flows)
 
--- src/advance.rt:56:9
 refused-requires-2 : tie.Need-refused-requires-2
 refused-requires-2 c κs = search needs
 
--- src/advance.rt:56:9
 returns-3 : tie.Need-returns-3
 returns-3 c =
     let a = c .before .before .before .before .before .before .before .before .before .before .before .args in
@@ -122,25 +101,20 @@ returns-3 c =
     ∙ sym (c .refused2 .ensures))
     (refuses 12 0 (c .refused2 .ensures))
 
--- src/advance.rt:58:9
 records-of-requires : tie.Need-records-of-requires
 records-of-requires c κs = opened (c .before .before .before) .lies
 
--- src/advance.rt:59:9
 read-run-requires : tie.Need-read-run-requires
 read-run-requires c κs = search needs
 
--- src/advance.rt:60:9
 run-answer-requires : tie.Need-run-answer-requires
 run-answer-requires c κs =
     let formed = opened (c .before .before .before .before .before .before) .formed in
     rw (c .before .before .records-of .ensures) (formed .recorded, λ i h. formed .fields i h .period .0, formed .most)
 
--- src/advance.rt:62:9
 same-length : tie.Need-same-length
 same-length c = search needs
 
--- src/advance.rt:62:9
 returns-4 : tie.Need-returns-4
 returns-4 c =
     let a = c .before .before .before .before .before .before .before .before .before .before .before .before .before .before .before .before .args in
@@ -150,19 +124,15 @@ returns-4 c =
     (λ z. c .if4 .taken (ap (λ (r : Answer). r .code) e ∙ z)) ∙ sym e)
     (c .if4 .taken)
 
--- src/advance.rt:64:18
 firsts-of-requires : tie.Need-firsts-of-requires
 firsts-of-requires c κs = let formed = opened (c .before .before .before .before .before .before .before .before .before) .formed in rw (c .before .before .before .before .before .records-of .ensures) (formed .most, formed .recorded)
 
--- src/advance.rt:67:9
 rows-of-requires : tie.Need-rows-of-requires
 rows-of-requires c κs = opened (c .before .before .before .before .before .before .before .before .before .before) .lies
 
--- src/advance.rt:69:9
 steps-of-requires : tie.Need-steps-of-requires
 steps-of-requires c κs = opened (c .before .before .before .before .before .before .before .before .before .before .before) .lies
 
--- src/advance.rt:65:9
 run-slot-requires : tie.Need-run-slot-requires
 run-slot-requires c κs =
     let run = c .before .before .before .before .before .before .before .before .read-run .ensures in (
@@ -172,23 +142,18 @@ run-slot-requires c κs =
       run .size,
     )
 
--- src/advance.rt:75:5
 write-run-requires : tie.Need-write-run-requires
 write-run-requires c κs = c .before .before .before .before .before .before .before .before .before .before .before .before .before .before .before .before .before .if2 .left
 
--- src/advance.rt:76:5
 done-requires : tie.Need-done-requires
 done-requires c κs = search needs
 
--- src/advance.rt:39:1
 same-length-2 : tie.Need-same-length-2
 same-length-2 c = search needs
 
--- src/advance.rt:39:1
 same-length-3 : tie.Need-same-length-3
 same-length-3 c = search needs
 
--- src/advance.rt:39:1
 returns-5 : tie.Need-returns-5
 returns-5 c =
     let a = c .before .before .before .before .before .before .before .before .before .before .before .before .before .before .before .before .before .before .before .before .before .before .before .before .before .before .before .before .before .before .args in

@@ -1,19 +1,19 @@
 -- ADVANCE: its answer by its rules in their order, and what it leaves where it is done. Leans on Refusing, Prefix and Places.
 -- Assumes nothing.
-use Prim.Native.Nat.{ℕ, suc, _+_, _*_, _≤_, _<_}
+use Prim.Native.Nat.{ℕ, suc, _*_, _≤_, _<_}
 use mathlib.Core.Path.{_≡_, refl, sym, _∙_, ap, ap₂}
-use mathlib.Core.Bool.{Bool, true, false, cond}
+use mathlib.Core.Bool.{true, false, cond}
 use mathlib.Core.Logic.{⊎-elim}
-use mathlib.Core.List.{List, [], _∷_, _++_}
+use mathlib.Core.List.{List, [], _∷_}
 use native.Mathlib.Omega.{arith}
-use lib.Dec.{eqb, ltb}
+use lib.Dec.{ltb}
 use lib.ListN.{length}
 use borrow.Author.Tests.{lt-ltb, le-ltb, eq-eqb, ne-eqb}
 use Rattle.trade.specs.Limits.{mostFlows, areaBytes, grantBytes, endOfClock}
 use Rattle.trade.specs.Bytes.{over}
 use Rattle.trade.specs.Layout.{sectionsOf}
 use Rattle.trade.specs.Facts.{Facts, factsOf, factsIn, said, stepOf, firstStep}
-use Rattle.trade.specs.Slot.{State, released, nextState, granted, grantOf, grantsOf}
+use Rattle.trade.specs.Slot.{State, released, nextState}
 use Rattle.trade.specs.Area.{stateIn, areaOf}
 use Rattle.trade.specs.Answers.{done, refused, isDone, firstOf, noNumber}
 use Rattle.trade.specs.Codes.{badPlace, overrun, code10, code11, code12, code13}
@@ -23,7 +23,7 @@ use Rattle.trade.specs.declared.state.Run.{Run}
 use Rattle.trade.proofs.First.{bool-cases, lt-or-ge}
 use Rattle.trade.proofs.Answers.{firstOf-rule, firstOf-refuse, firstOf-pass, firstOf-on, given-true, given-false, givenFirst-same}
 use Rattle.trade.proofs.Area.{placeByte}
-use Rattle.run.specs.States.{placeOf, stateOf, Reads}
+use Rattle.run.specs.States.{stateOf, Reads}
 use Rattle.run.specs.Refusals.{runAnswer}
 use Rattle.run.specs.Slots.{Ran}
 use Rattle.run.specs.Calls.{Advances}

@@ -3,33 +3,32 @@
 use Prim.Native.Nat.{ℕ, zero, suc, _+_, _*_, _≤_, _<_}
 use mathlib.Core.Path.{_≡_, refl, sym, _∙_, ap, ap₂}
 use mathlib.Core.Bool.{Bool, true, false, cond, not, _&&_}
-use mathlib.Core.Logic.{_⊎_, inl, inr, ⊎-elim}
+use mathlib.Core.Logic.{⊎-elim}
 use mathlib.Core.List.{List, [], _∷_, _++_, map, map-append, append-assoc, append-nil}
 use native.Mathlib.Nat.{add-zero}
 use native.Mathlib.Numerals.{add-one}
 use native.Mathlib.Omega.{arith}
 use lib.Dec.{ltb}
 use lib.ListN.{length, getD, set, length-set, length-append}
-use borrow.Author.Tests.{ltb-true, lt-ltb, le-ltb}
-use Rattle.trade.specs.Limits.{mostFlows, stepBytes, grantBytes}
+use borrow.Author.Tests.{le-ltb}
+use Rattle.trade.specs.Limits.{stepBytes, grantBytes}
 use Rattle.trade.specs.First.{sumTo}
 use Rattle.trade.specs.Bytes.{twoBytes, fourBytes, over}
 use Rattle.trade.specs.Layout.{field}
-use Rattle.trade.specs.Facts.{Facts, factsOf, factsIn, flowIn, disturbsIn, stepIn, firstStep, stepOf}
-use Rattle.trade.specs.Conflict.{conflictsWith}
+use Rattle.trade.specs.Facts.{Facts, factsOf, factsIn, flowIn, stepIn, firstStep, stepOf}
 use Rattle.trade.specs.Interference.{one}
 use Rattle.trade.specs.Run.{idleOf}
 use Rattle.trade.specs.Slot.{State, Rule, going, greedy, granted, among, released, instanceAt, doneNow, unfinished, nextStep, nextState, grantOf, grantsOf}
 use Rattle.trade.specs.declared.node.Transmission.{Transmission}
 use Rattle.trade.specs.declared.state.Progress.{Progress}
 use Rattle.trade.specs.declared.state.Run.{Run}
-use Rattle.trade.proofs.First.{bool-cases, not-both, lt-or-ge}
+use Rattle.trade.proofs.First.{bool-cases, lt-or-ge}
 use Rattle.trade.proofs.Sums.{sum-next, sum-le}
 use Rattle.trade.proofs.Slot.{going-goes, going-stays, going-below, among-last, among-more}
 use Rattle.trade.proofs.Bytes.{length-over}
 use Rattle.trade.proofs.Grants.{length-grant}
 use Rattle.plans.specs.Network.{Within}
-use Rattle.plans.specs.Grants.{Holds, Fresh, clashesWith, Grown}
+use Rattle.plans.specs.Grants.{Holds, Fresh, clashesWith}
 use Rattle.plans.specs.declared.grants.GrantSet.{GrantSet}
 use Rattle.book.specs.Written.{pastedAt}
 use Rattle.book.proofs.Pasting.{pasted-next}

@@ -1,20 +1,18 @@
 -- THE PREFIX LAW. The first k flows decide their own grants: where two books agree on them, the same of them are granted in every slot of
 -- every run, with the same bytes. Deadlines bear on nothing here, nor does the node count. Leans on the trade's Slot and Agree.
 -- Assumes nothing.
-use Prim.Native.Nat.{ℕ, zero, suc, _+_, _-_, _/_, _%_, _≤_, _<_}
+use Prim.Native.Nat.{ℕ, zero, suc, _+_, _≤_, _<_}
 use mathlib.Core.Path.{_≡_, refl, sym, _∙_, ap, ap₂}
-use mathlib.Core.Bool.{Bool, true, false, cond, not, _&&_}
-use mathlib.Core.Logic.{_⊎_, inl, inr, ⊎-elim}
-use mathlib.Core.List.{List, [], _∷_, _++_, map}
+use mathlib.Core.Bool.{Bool, true, false}
+use mathlib.Core.Logic.{_⊎_, inl, inr}
+use mathlib.Core.List.{List, map}
 use native.Mathlib.Omega.{arith}
-use lib.Dec.{leb, eqb, ltb}
-use lib.ListN.{length}
+use lib.Dec.{ltb}
 use borrow.Author.Tests.{ltb-true}
 use Rattle.trade.specs.Facts.{Facts, stepOf}
 use Rattle.trade.specs.Conflict.{conflictsWith}
 use Rattle.trade.specs.Interference.{one}
-use Rattle.trade.specs.Slot.{State, Rule, atStart, released, instanceAt, doneNow, unfinished, nextStep, going, greedy, granted, among, nextState, runTo, grantOf, grantsOf}
-use Rattle.trade.specs.declared.node.Transmission.{Transmission}
+use Rattle.trade.specs.Slot.{State, atStart, released, instanceAt, doneNow, unfinished, nextStep, going, greedy, granted, among, nextState, runTo, grantOf, grantsOf}
 use Rattle.trade.proofs.First.{bool-cases}
 use Rattle.trade.proofs.Slot.{going-below, going-stands}
 use Rattle.trade.proofs.Agree.{map-among, grants-among}

@@ -1,9 +1,8 @@
 -- One flow's turn: what is left where it waits, and where it goes. Leans on book's Pasting. Assumes nothing.
 use Prim.Native.Nat.{ℕ, _+_, _-_, _*_, _≤_, _<_}
 use mathlib.Core.Path.{_≡_, refl, sym, _∙_, ap}
-use mathlib.Core.Bool.{Bool, true, false, not, _&&_}
+use mathlib.Core.Bool.{true, false}
 use mathlib.Core.List.{List, _++_}
-use lib.Dec.{ltb}
 use lib.ListN.{length, take, drop}
 use lib.Seq.{take-length}
 use borrow.Author.Tests.{lt-ltb, le-ltb}
@@ -19,7 +18,6 @@ use Rattle.run.specs.States.{bytesOf}
 use Rattle.run.specs.Turns.{nextOf, goesNow, grantNow, Turned}
 use Rattle.run.specs.declared.slot.Turn.{Turn}
 use Rattle.run.specs.declared.slot.Made.{Made}
-use Rattle.run.specs.declared.slot.Taken.{Taken}
 
 -- what a part that starts at a place has in front is put into the whole
 pub pasted-over :

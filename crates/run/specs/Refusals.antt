@@ -1,5 +1,4 @@
 -- Codes 10, 12 and 11 of a run. Leans on Turns, and on the trade's Codes.
-use Prim.Native.Nat.{ℕ}
 use mathlib.Core.Bool.{Bool, cond, _&&_}
 use lib.Dec.{ltb}
 use Rattle.trade.specs.Facts.{Facts}

@@ -1,8 +1,7 @@
 -- `run::advance::firsts_of` reads the phase of each flow in turn. Assumes nothing.
-use Prim.Native.Nat.{ℕ, suc, _+_, _-_, _≤_, _<_}
-use mathlib.Core.Path.{_≡_, refl, sym, _∙_, ap}
+use Prim.Native.Nat.{ℕ, _-_, _≤_, _<_}
+use mathlib.Core.Path.{_≡_, refl, _∙_, ap}
 use native.Mathlib.Omega.{arith}
-use denote.Ref.{now}
 use borrow.Author.Needs.{needs}
 use borrow.Author.Count.{below-more}
 use lib.ListN.{length, getD, length-set}
@@ -13,9 +12,6 @@ use Rattle.trade.specs.Facts.{flowIn}
 use Rattle.trade.specs.declared.flow.Flow.{Flow}
 use Rattle.run.proofs.advance.firsts_of.Statement.{statement}
 use Rattle.run.proofs.advance.firsts_of.Tie as tie
-use Rattle.run.proofs.advance.firsts_of.Reads as reads
-use Rattle.run.proofs.advance.firsts_of.Lts as lts
-use Rattle.book.proofs.records.record_at.Reads as record-at-reads
 
 abbrev Inv-loop : tie.InvT-loop
 Inv-loop flows records firsts₀ i₀ firsts i =
@@ -24,35 +20,27 @@ Inv-loop flows records firsts₀ i₀ firsts i =
 abbrev μ-loop : tie.MeasureT-loop
 μ-loop flows records firsts₀ i₀ firsts i = flows - i
 
--- src/advance.rt:29:5
 loop-holds : tie.Need-loop-holds Inv-loop μ-loop
 loop-holds c = (omega arith, refl, λ k h. absurd (omega arith))
 
--- src/advance.rt:30:13
 record-at-requires : tie.Need-record-at-requires Inv-loop μ-loop
 record-at-requires c κs = search needs
 
--- src/advance.rt:31:21
 cast-firsts : tie.Need-cast-firsts Inv-loop μ-loop
 cast-firsts c = search needs
 
--- src/advance.rt:31:9
 mul-firsts : tie.Need-mul-firsts Inv-loop μ-loop
 mul-firsts c = search needs
 
--- src/advance.rt:31:9
 array-write-firsts : tie.Need-array-write-firsts Inv-loop μ-loop
 array-write-firsts c = search needs
 
--- src/advance.rt:32:9
 add-i : tie.Need-add-i Inv-loop μ-loop
 add-i c = search needs
 
--- src/advance.rt:29:5
 loop-less : tie.Need-loop-less Inv-loop μ-loop
 loop-less c = search needs
 
--- src/advance.rt:29:5
 loop-again : tie.Need-loop-again Inv-loop μ-loop
 unfolding flowIn
 loop-again c =
@@ -63,7 +51,6 @@ loop-again c =
           (getD-set-same (loop .firsts) (loop .i) _ 0 (omega arith) ∙ ap (λ (w : Flow). w .phase) (c .before .record-at .ensures)),
     )
 
--- src/advance.rt:23:1
 returns : tie.Need-returns Inv-loop μ-loop
 returns c = λ k h. c .before .loop .inv .2 k (omega arith)
 

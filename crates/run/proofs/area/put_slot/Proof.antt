@@ -7,46 +7,34 @@ use Rattle.trade.specs.Bytes.{twoBytes, fourBytes, over}
 use borrow.Author.Needs.{needs}
 use Rattle.run.proofs.area.put_slot.Statement.{statement}
 use Rattle.run.proofs.area.put_slot.Tie as tie
-use Rattle.run.proofs.area.put_slot.Reads as reads
-use Rattle.run.proofs.area.put_slot.Lts as lts
 
--- src/area.rt:51:15
 cast-area : tie.Need-cast-area
 cast-area c = search needs
 
--- src/area.rt:51:5
 slice-write-area : tie.Need-slice-write-area
 slice-write-area c = search needs
 
--- src/area.rt:52:15
 cast-area-2 : tie.Need-cast-area-2
 cast-area-2 c = search needs
 
--- src/area.rt:52:5
 slice-write-area-2 : tie.Need-slice-write-area-2
 slice-write-area-2 c = simp length-set (omega arith)
 
--- src/area.rt:53:15
 cast-area-3 : tie.Need-cast-area-3
 cast-area-3 c = search needs
 
--- src/area.rt:53:5
 slice-write-area-3 : tie.Need-slice-write-area-3
 slice-write-area-3 c = simp length-set (omega arith)
 
--- src/area.rt:54:15
 cast-area-4 : tie.Need-cast-area-4
 cast-area-4 c = search needs
 
--- src/area.rt:54:5
 slice-write-area-4 : tie.Need-slice-write-area-4
 slice-write-area-4 c = simp length-set (omega arith)
 
--- src/area.rt:45:1
 same-length : tie.Need-same-length
 same-length c = search needs
 
--- src/area.rt:45:1
 returns : tie.Need-returns
 unfolding twoBytes fourBytes over
 returns c =

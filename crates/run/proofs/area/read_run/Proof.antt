@@ -1,21 +1,16 @@
 -- `run::area::read_run` reads each place in turn, and then the slot. Assumes nothing.
-use Prim.Native.Nat.{ℕ, suc, _+_, _-_, _≤_, _<_}
-use mathlib.Core.Path.{_≡_, refl, sym, _∙_, ap}
-use mathlib.Core.Logic.{⊎-elim}
+use Prim.Native.Nat.{ℕ, _-_, _≤_, _<_}
+use mathlib.Core.Path.{_≡_, refl, _∙_}
 use native.Mathlib.Omega.{arith}
-use denote.Ref.{now}
 use borrow.Author.Needs.{needs}
 use borrow.Author.Count.{below-more}
 use lib.ListN.{length, length-set}
-use Rattle.trade.specs.Limits.{mostFlows, slotBytes}
+use Rattle.trade.specs.Limits.{mostFlows}
 use Rattle.trade.specs.Area.{stateIn}
 use Rattle.run.specs.States.{placeOf}
 use Rattle.run.proofs.Places.{stored, unstored}
 use Rattle.run.proofs.area.read_run.Statement.{statement}
 use Rattle.run.proofs.area.read_run.Tie as tie
-use Rattle.run.proofs.area.read_run.Reads as reads
-use Rattle.run.proofs.area.read_run.Lts as lts
-use Rattle.run.proofs.area.slot_at.Reads as slot-at-reads
 
 abbrev Inv-loop : tie.InvT-loop
 Inv-loop area flows₀ i₀ flows i =
@@ -26,31 +21,24 @@ Inv-loop area flows₀ i₀ flows i =
 abbrev μ-loop : tie.MeasureT-loop
 μ-loop area flows₀ i₀ flows i = mostFlows - i
 
--- src/area.rt:32:5
 loop-holds : tie.Need-loop-holds Inv-loop μ-loop
 loop-holds c = (omega arith, refl, λ k h. absurd (omega arith))
 
--- src/area.rt:34:29
 add-t7 : tie.Need-add-t7 Inv-loop μ-loop
 add-t7 c = search needs
 
--- src/area.rt:34:24
 shared-slice-read-t9 : tie.Need-shared-slice-read-t9 Inv-loop μ-loop
 shared-slice-read-t9 c = search needs
 
--- src/area.rt:33:9
 array-set-from-flows : tie.Need-array-set-from-flows Inv-loop μ-loop
 array-set-from-flows c = search needs
 
--- src/area.rt:36:9
 add-i : tie.Need-add-i Inv-loop μ-loop
 add-i c = search needs
 
--- src/area.rt:32:5
 loop-less : tie.Need-loop-less Inv-loop μ-loop
 loop-less c = search needs
 
--- src/area.rt:32:5
 loop-again : tie.Need-loop-again Inv-loop μ-loop
 unfolding stateIn
 loop-again c =
@@ -61,11 +49,9 @@ loop-again c =
           (stored (loop .flows) (loop .i) _ (omega arith)),
     )
 
--- src/area.rt:39:15
 slot-at-requires : tie.Need-slot-at-requires Inv-loop μ-loop
 slot-at-requires c κs = search needs
 
--- src/area.rt:26:1
 returns : tie.Need-returns Inv-loop μ-loop
 returns c =
     let loop = c .before .before .loop in

@@ -6,35 +6,25 @@ use Rattle.trade.specs.Area.{stateIn}
 use borrow.Author.Needs.{needs}
 use Rattle.run.proofs.area.slot_at.Statement.{statement}
 use Rattle.run.proofs.area.slot_at.Tie as tie
-use Rattle.run.proofs.area.slot_at.Reads as reads
-use Rattle.run.proofs.area.slot_at.Lts as lts
-use Rattle.book.proofs.numbers.word_at.Reads as word-at-reads
 
--- src/area.rt:21:11
 word-at-requires : tie.Need-word-at-requires
 word-at-requires c κs = search needs
 
--- src/area.rt:21:11
 cast-t3 : tie.Need-cast-t3
 cast-t3 c = search needs
 
--- src/area.rt:21:10
 mul-t4 : tie.Need-mul-t4
 mul-t4 c = search needs
 
--- src/area.rt:21:48
 word-at-requires-2 : tie.Need-word-at-requires-2
 word-at-requires-2 c κs = search needs
 
--- src/area.rt:21:48
 cast-t6 : tie.Need-cast-t6
 cast-t6 c = search needs
 
--- src/area.rt:21:10
 add-t7 : tie.Need-add-t7
 add-t7 c = search needs
 
--- src/area.rt:17:1
 returns : tie.Need-returns
 unfolding stateIn long
 returns c = ap₂ (λ (high low : ℕ). high * 65536 + low) (c .before .word-at .ensures) (c .word-at2 .ensures)

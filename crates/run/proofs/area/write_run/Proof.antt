@@ -1,21 +1,17 @@
 -- `run::area::write_run` stores each place in turn behind the slot. Assumes nothing.
-use Prim.Native.Nat.{ℕ, suc, _+_, _-_, _≤_, _<_}
-use mathlib.Core.Path.{_≡_, refl, sym, _∙_, ap}
+use Prim.Native.Nat.{ℕ, _-_, _≤_}
+use mathlib.Core.Path.{_≡_, _∙_, ap}
 use native.Mathlib.Omega.{arith}
 use denote.Ref.{now}
 use borrow.Author.Needs.{needs}
-use lib.ListN.{length, length-set}
+use lib.ListN.{length}
 use Rattle.trade.specs.Limits.{mostFlows, slotBytes, areaBytes}
 use Rattle.trade.specs.First.{listTo}
-use Rattle.trade.specs.Area.{areaOf}
 use Rattle.book.specs.Written.{pastedAt}
 use Rattle.run.specs.States.{placeOf, stateOf}
 use Rattle.run.proofs.Places.{store-none, store-length, store-next, area-written}
 use Rattle.run.proofs.area.write_run.Statement.{statement}
 use Rattle.run.proofs.area.write_run.Tie as tie
-use Rattle.run.proofs.area.write_run.Reads as reads
-use Rattle.run.proofs.area.write_run.Lts as lts
-use Rattle.run.proofs.area.put_slot.Reads as put-slot-reads
 
 abbrev Inv-loop : tie.InvT-loop
 Inv-loop area₀ flows i₀ area i =
@@ -26,53 +22,43 @@ Inv-loop area₀ flows i₀ area i =
 abbrev μ-loop : tie.MeasureT-loop
 μ-loop area₀ flows i₀ area i = mostFlows - i
 
--- src/area.rt:62:5
 put-slot-requires : tie.Need-put-slot-requires Inv-loop μ-loop
 put-slot-requires c κs = search needs
 
--- src/area.rt:65:5
 loop-holds : tie.Need-loop-holds Inv-loop μ-loop
 loop-holds c =
     let start = c .before .before .before .before .before .before in
     let put = c .before .before .before .put-slot in
     (omega arith, omega (arith, put .kept .0, start .pre), store-none slotBytes (placeOf (start .args .run .flows)) (put .last .0))
 
--- src/area.rt:66:17
 array-copy-out-p : tie.Need-array-copy-out-p Inv-loop μ-loop
 array-copy-out-p c = search needs
 
--- src/area.rt:67:14
 add-area : tie.Need-add-area Inv-loop μ-loop
 add-area c = search needs
 
--- src/area.rt:67:9
 slice-write-area : tie.Need-slice-write-area Inv-loop μ-loop
 slice-write-area c =
     let loop = c .before .before .loop in
     omega (arith, store-length slotBytes _ _ (loop .i) (loop .area) (loop .inv .2) (omega arith))
 
--- src/area.rt:68:9
 add-i : tie.Need-add-i Inv-loop μ-loop
 add-i c = search needs
 
--- src/area.rt:65:5
 loop-less : tie.Need-loop-less Inv-loop μ-loop
 loop-less c = search needs
 
--- src/area.rt:65:5
 loop-again : tie.Need-loop-again Inv-loop μ-loop
 unfolding placeOf
 loop-again c =
     let loop = c .before .before .loop in
     (omega arith, loop .inv .1, store-next slotBytes _ _ (loop .i) (loop .area) (loop .inv .2) (omega arith))
 
--- src/area.rt:58:1
 same-length : tie.Need-same-length Inv-loop μ-loop
 same-length c =
     let loop = c .before .loop in
     store-length slotBytes _ _ (loop .i) (loop .area) (loop .inv .2) (omega arith) ∙ c .before .before .before .before .before .put-slot .kept .0
 
--- src/area.rt:58:1
 returns : tie.Need-returns Inv-loop μ-loop
 unfolding stateOf
 returns c =

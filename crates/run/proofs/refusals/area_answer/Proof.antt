@@ -1,7 +1,7 @@
 -- `run::refusals::area_answer`: no place passed is bad. Assumes nothing.
-use Prim.Native.Nat.{ℕ, suc, _+_, _-_, _≤_, _<_}
-use mathlib.Core.Path.{_≡_, refl, sym, _∙_, ap}
-use mathlib.Core.Bool.{true, false}
+use Prim.Native.Nat.{ℕ, _-_, _≤_, _<_}
+use mathlib.Core.Path.{_≡_, sym, _∙_}
+use mathlib.Core.Bool.{false}
 use mathlib.Core.List.{[]}
 use native.Mathlib.Omega.{arith}
 use denote.Ref.{now}
@@ -15,11 +15,6 @@ use Rattle.run.specs.States.{stateOf}
 use Rattle.run.proofs.Refusing.{code10-late, code10-at, code10-none, place-shown}
 use Rattle.run.proofs.refusals.area_answer.Statement.{statement}
 use Rattle.run.proofs.refusals.area_answer.Tie as tie
-use Rattle.run.proofs.refusals.area_answer.Reads as reads
-use Rattle.run.proofs.refusals.area_answer.Lts as lts
-use Rattle.run.proofs.refusals.is_bad_place.Reads as is-bad-place-reads
-use Rattle.trade.proofs.answer.Answer.done.Reads as done-reads
-use Rattle.trade.proofs.answer.Answer.refused.Reads as refused-reads
 
 abbrev Inv-loop : tie.InvT-loop
 Inv-loop flows records slot places i₀ i =
@@ -30,7 +25,6 @@ Inv-loop flows records slot places i₀ i =
 abbrev μ-loop : tie.MeasureT-loop
 μ-loop flows records slot places i₀ i = mostFlows - i
 
--- src/refusals.rt:41:9
 -- what is asked of a place is whether it is bad
 asked :
     (c : tie.After-is-bad-place Inv-loop μ-loop)
@@ -43,30 +37,24 @@ asked c =
 refused-requires : tie.Need-refused-requires Inv-loop μ-loop
 refused-requires c κs = search needs
 
--- src/refusals.rt:41:9
 returns : tie.Need-returns Inv-loop μ-loop
 unfolding stateOf
 returns c =
     let a = c .before .before .before .before .before .args in
     c .refused .ensures ∙ sym (code10-late (factsIn 0 (a .flows) [] (now (a .records)) []) (stateOf (a .run)) (c .before .if1 .taken))
 
--- src/refusals.rt:45:5
 loop-holds : tie.Need-loop-holds Inv-loop μ-loop
 loop-holds c = (omega arith, omega arith, λ k h. absurd (omega arith))
 
--- src/refusals.rt:46:50
 array-copy-out-is-bad-place : tie.Need-array-copy-out-is-bad-place Inv-loop μ-loop
 array-copy-out-is-bad-place c = search needs
 
--- src/refusals.rt:46:12
 is-bad-place-requires : tie.Need-is-bad-place-requires Inv-loop μ-loop
 is-bad-place-requires c κs = search needs
 
--- src/refusals.rt:47:13
 refused-requires-2 : tie.Need-refused-requires-2 Inv-loop μ-loop
 refused-requires-2 c κs = search needs
 
--- src/refusals.rt:47:13
 returns-2 : tie.Need-returns-2 Inv-loop μ-loop
 unfolding stateOf
 returns-2 c =
@@ -75,25 +63,20 @@ returns-2 c =
     c .refused2 .ensures
     ∙ sym (code10-at (factsIn 0 (a .flows) [] (now (a .records)) []) (stateOf (a .run)) (loop .i) (loop .inv .1) (omega arith) (loop .inv .2) (sym (asked (c .before .before)) ∙ c .before .if2 .taken))
 
--- src/refusals.rt:49:9
 add-i : tie.Need-add-i Inv-loop μ-loop
 add-i c = search needs
 
--- src/refusals.rt:45:5
 loop-less : tie.Need-loop-less Inv-loop μ-loop
 loop-less c = search needs
 
--- src/refusals.rt:45:5
 loop-again : tie.Need-loop-again Inv-loop μ-loop
 loop-again c =
     let loop = c .before .before .before .before .loop in
     (omega arith, loop .inv .1, below-more _ _ (loop .inv .2) (sym (asked (c .before)) ∙ c .if2 .left))
 
--- src/refusals.rt:51:5
 done-requires : tie.Need-done-requires Inv-loop μ-loop
 done-requires c κs = search needs
 
--- src/refusals.rt:35:1
 returns-3 : tie.Need-returns-3 Inv-loop μ-loop
 unfolding stateOf
 returns-3 c =

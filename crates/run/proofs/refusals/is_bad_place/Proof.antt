@@ -1,33 +1,24 @@
 -- `run::refusals::is_bad_place` tests a used place by its record, and an unused one for 0. Assumes nothing.
-use mathlib.Core.Path.{_≡_, refl}
 use borrow.Author.Tests.{lt-ltb, le-ltb}
 use Rattle.trade.specs.Facts.{factsOf, flowIn}
 use Rattle.trade.specs.Codes.{badPlace}
 use borrow.Author.Needs.{needs}
 use Rattle.run.proofs.refusals.is_bad_place.Statement.{statement}
 use Rattle.run.proofs.refusals.is_bad_place.Tie as tie
-use Rattle.run.proofs.refusals.is_bad_place.Reads as reads
-use Rattle.run.proofs.refusals.is_bad_place.Lts as lts
-use Rattle.book.proofs.records.record_at.Reads as record-at-reads
 
--- src/refusals.rt:26:16
 cast-done : tie.Need-cast-done
 cast-done c = search needs
 
--- src/refusals.rt:28:9
 returns : tie.Need-returns
 unfolding badPlace factsOf
 returns c = rw (le-ltb (c .before .before .before .args .i) (c .before .before .before .args .flows) (c .if1 .taken))
 
--- src/refusals.rt:30:9
 record-at-requires : tie.Need-record-at-requires
 record-at-requires c κs = search needs
 
--- src/refusals.rt:31:37
 cast-result : tie.Need-cast-result
 cast-result c = search needs
 
--- src/refusals.rt:22:1
 returns-2 : tie.Need-returns-2
 unfolding badPlace factsOf flowIn
 returns-2 c = rw (lt-ltb (c .before .before .before .before .before .before .before .before .args .i) (c .before .before .before .before .before .before .before .before .args .flows) (c .before .before .before .before .before .if1 .left), c .before .before .before .before .record-at .ensures)

@@ -6,23 +6,16 @@ use Rattle.run.specs.Refusals.{overrunAt}
 use borrow.Author.Needs.{needs}
 use Rattle.run.proofs.refusals.is_overrun.Statement.{statement}
 use Rattle.run.proofs.refusals.is_overrun.Tie as tie
-use Rattle.run.proofs.refusals.is_overrun.Reads as reads
-use Rattle.run.proofs.refusals.is_overrun.Lts as lts
-use Rattle.run.proofs.release.is_released.Reads as is-released-reads
 
--- src/refusals.rt:59:22
 cast-t5 : tie.Need-cast-t5
 cast-t5 c = search needs
 
--- src/refusals.rt:59:5
 is-released-requires : tie.Need-is-released-requires
 is-released-requires c κs = search needs
 
--- src/refusals.rt:59:65
 cast-result : tie.Need-cast-result
 cast-result c = search needs
 
--- src/refusals.rt:55:1
 returns : tie.Need-returns
 unfolding overrunAt
 returns c =

@@ -1,7 +1,7 @@
 -- `run::refusals::overrun_answer`: no flow passed is overrun. Assumes nothing.
-use Prim.Native.Nat.{ℕ, suc, _+_, _-_, _≤_, _<_}
-use mathlib.Core.Path.{_≡_, refl, sym, _∙_, ap}
-use mathlib.Core.Bool.{true, false}
+use Prim.Native.Nat.{ℕ, _-_, _≤_, _<_}
+use mathlib.Core.Path.{_≡_, sym, _∙_, ap}
+use mathlib.Core.Bool.{false}
 use mathlib.Core.List.{[]}
 use native.Mathlib.Omega.{arith}
 use denote.Ref.{now}
@@ -18,12 +18,6 @@ use Rattle.run.specs.Refusals.{overrunAt}
 use Rattle.run.proofs.Refusing.{code11-at, code11-none, overrun-shown}
 use Rattle.run.proofs.refusals.overrun_answer.Statement.{statement}
 use Rattle.run.proofs.refusals.overrun_answer.Tie as tie
-use Rattle.run.proofs.refusals.overrun_answer.Reads as reads
-use Rattle.run.proofs.refusals.overrun_answer.Lts as lts
-use Rattle.book.proofs.records.record_at.Reads as record-at-reads
-use Rattle.run.proofs.refusals.is_overrun.Reads as is-overrun-reads
-use Rattle.trade.proofs.answer.Answer.done.Reads as done-reads
-use Rattle.trade.proofs.answer.Answer.refused.Reads as refused-reads
 
 abbrev Inv-loop : tie.InvT-loop
 Inv-loop flows records slot places i₀ i =
@@ -33,7 +27,6 @@ Inv-loop flows records slot places i₀ i =
 abbrev μ-loop : tie.MeasureT-loop
 μ-loop flows records slot places i₀ i = flows - i
 
--- src/refusals.rt:70:5
 -- what is asked of a flow is whether it is overrun
 asked :
     (c : tie.After-is-overrun Inv-loop μ-loop)
@@ -49,24 +42,19 @@ asked c =
 loop-holds : tie.Need-loop-holds Inv-loop μ-loop
 loop-holds c = (omega arith, λ k h. absurd (omega arith))
 
--- src/refusals.rt:71:23
 record-at-requires : tie.Need-record-at-requires Inv-loop μ-loop
 record-at-requires c κs = search needs
 
--- src/refusals.rt:71:52
 array-copy-out-is-overrun : tie.Need-array-copy-out-is-overrun Inv-loop μ-loop
 array-copy-out-is-overrun c = search needs
 
--- src/refusals.rt:71:12
 is-overrun-requires : tie.Need-is-overrun-requires Inv-loop μ-loop
 unfolding flowIn
 is-overrun-requires c κs = rw (c .before .record-at .ensures) (c .before .before .before .before .before .before .before .pre .1 (c .before .before .before .loop .i) (c .before .before .loop-test .taken))
 
--- src/refusals.rt:72:13
 refused-requires : tie.Need-refused-requires Inv-loop μ-loop
 refused-requires c κs = search needs
 
--- src/refusals.rt:72:13
 returns : tie.Need-returns Inv-loop μ-loop
 unfolding factsOf
 returns c =
@@ -75,25 +63,20 @@ returns c =
     c .refused .ensures
     ∙ sym (code11-at (factsIn 0 (a .flows) [] (now (a .records)) []) (stateOf (a .run)) (loop .i) (omega arith) (loop .inv .1) (sym (asked (c .before .before)) ∙ c .before .if1 .taken))
 
--- src/refusals.rt:74:9
 add-i : tie.Need-add-i Inv-loop μ-loop
 add-i c = search needs
 
--- src/refusals.rt:70:5
 loop-less : tie.Need-loop-less Inv-loop μ-loop
 loop-less c = search needs
 
--- src/refusals.rt:70:5
 loop-again : tie.Need-loop-again Inv-loop μ-loop
 loop-again c =
     let loop = c .before .before .before .before .before .loop in
     (omega arith, below-more _ _ (loop .inv .1) (sym (asked (c .before)) ∙ c .if1 .left))
 
--- src/refusals.rt:76:5
 done-requires : tie.Need-done-requires Inv-loop μ-loop
 done-requires c κs = search needs
 
--- src/refusals.rt:63:1
 returns-2 : tie.Need-returns-2 Inv-loop μ-loop
 unfolding factsOf
 returns-2 c =

@@ -1,5 +1,5 @@
 -- `run::refusals::run_answer` tests 10, 12 and 11 in that order. Assumes nothing.
-use mathlib.Core.Path.{_≡_, sym, _∙_, ap}
+use mathlib.Core.Path.{sym, _∙_, ap}
 use mathlib.Core.List.{[]}
 use denote.Ref.{now}
 use Rattle.trade.specs.Facts.{factsIn}
@@ -9,39 +9,28 @@ use Rattle.run.proofs.Refusing.{run-malformed, run-ended, run-overrun}
 use borrow.Author.Needs.{needs}
 use Rattle.run.proofs.refusals.run_answer.Statement.{statement}
 use Rattle.run.proofs.refusals.run_answer.Tie as tie
-use Rattle.run.proofs.refusals.run_answer.Reads as reads
-use Rattle.run.proofs.refusals.run_answer.Lts as lts
-use Rattle.run.proofs.refusals.area_answer.Reads as area-answer-reads
-use Rattle.run.proofs.refusals.overrun_answer.Reads as overrun-answer-reads
-use Rattle.trade.proofs.answer.Answer.refused.Reads as refused-reads
 
--- src/refusals.rt:84:9
 area-answer-requires : tie.Need-area-answer-requires
 area-answer-requires c κs = search needs
 
--- src/refusals.rt:86:9
 returns : tie.Need-returns
 returns c =
     let a = c .before .before .before .before .args in
     let malformed = c .before .before .area-answer .ensures in
     malformed ∙ sym (run-malformed (factsIn 0 (a .flows) [] (now (a .records)) []) (stateOf (a .run)) (λ z. c .if1 .taken (ap (λ (r : Answer). r .code) malformed ∙ z)))
 
--- src/refusals.rt:89:9
 refused-requires : tie.Need-refused-requires
 refused-requires c κs = search needs
 
--- src/refusals.rt:89:9
 returns-2 : tie.Need-returns-2
 unfolding stateOf
 returns-2 c =
     let a = c .before .before .before .before .before .before .before .args in
     c .refused .ensures ∙ sym (run-ended (factsIn 0 (a .flows) [] (now (a .records)) []) (stateOf (a .run)) (sym (ap (λ (r : Answer). r .code) (c .before .before .before .before .before .area-answer .ensures)) ∙ c .before .before .before .if1 .left) (c .before .if2 .taken))
 
--- src/refusals.rt:91:5
 overrun-answer-requires : tie.Need-overrun-answer-requires
 overrun-answer-requires c κs = search needs
 
--- src/refusals.rt:80:1
 returns-3 : tie.Need-returns-3
 unfolding stateOf
 returns-3 c =

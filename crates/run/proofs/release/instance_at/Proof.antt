@@ -1,5 +1,5 @@
 -- `run::release::instance_at` divides the slots since the first release by the period; there are none before it. Assumes nothing.
-use Prim.Native.Nat.{ℕ, _-_}
+use Prim.Native.Nat.{_-_}
 use mathlib.Core.Path.{_≡_, refl, sym}
 use native.Mathlib.Nat.{zero-div}
 use native.Mathlib.Omega.{arith}
@@ -7,10 +7,7 @@ use Rattle.run.specs.Turns.{instanceBy}
 use borrow.Author.Needs.{needs}
 use Rattle.run.proofs.release.instance_at.Statement.{statement}
 use Rattle.run.proofs.release.instance_at.Tie as tie
-use Rattle.run.proofs.release.instance_at.Reads as reads
-use Rattle.run.proofs.release.instance_at.Lts as lts
 
--- src/release.rt:22:9
 returns : tie.Need-returns
 unfolding instanceBy
 returns c =
@@ -18,11 +15,9 @@ returns c =
     let none : a .slot .0 - a .first .0 ≡ 0 = omega arith in
     rw none (sym (zero-div (a .period)))
 
--- src/release.rt:24:14
 div-t7 : tie.Need-div-t7
 div-t7 c = search needs
 
--- src/release.rt:17:1
 returns-2 : tie.Need-returns-2
 unfolding instanceBy
 returns-2 c = refl

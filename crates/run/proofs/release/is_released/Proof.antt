@@ -4,19 +4,14 @@ use Rattle.run.specs.Turns.{releasedAt}
 use borrow.Author.Needs.{needs}
 use Rattle.run.proofs.release.is_released.Statement.{statement}
 use Rattle.run.proofs.release.is_released.Tie as tie
-use Rattle.run.proofs.release.is_released.Reads as reads
-use Rattle.run.proofs.release.is_released.Lts as lts
 
--- src/release.rt:14:9
 returns : tie.Need-returns
 unfolding releasedAt
 returns c = simp (lt-leb _ _ (c .if1 .taken))
 
--- src/release.rt:16:5
 rem-result : tie.Need-rem-result
 rem-result c = search needs
 
--- src/release.rt:9:1
 returns-2 : tie.Need-returns-2
 unfolding releasedAt
 returns-2 c = simp (le-leb _ _ (c .before .before .if1 .left))

@@ -1,11 +1,11 @@
 -- `run::slot::run_slot` takes the flows in record order. Assumes nothing.
-use Prim.Native.Nat.{ℕ, suc, _+_, _-_, _*_, _≤_, _<_}
+use Prim.Native.Nat.{ℕ, _+_, _-_, _*_, _≤_}
 use mathlib.Core.Path.{_≡_, refl, _∙_, ap, ap₂}
 use native.Mathlib.Numerals.{add-one}
 use native.Mathlib.Omega.{arith}
 use denote.Ref.{now}
 use borrow.Author.Needs.{needs}
-use lib.ListN.{length, getD, length-set}
+use lib.ListN.{getD}
 use Rattle.trade.specs.Facts.{factsOf, factsIn, flowIn, firstStep}
 use Rattle.trade.specs.Limits.{mostFlows, mostSteps}
 use Rattle.trade.specs.First.{sumTo}
@@ -17,12 +17,6 @@ use Rattle.run.specs.Turns.{turnOf}
 use Rattle.run.proofs.Choosing.{Chosen, chosen-none, chosen-length, chosen-ran, turn-room, chosen-next}
 use Rattle.run.proofs.slot.run_slot.Statement.{statement}
 use Rattle.run.proofs.slot.run_slot.Tie as tie
-use Rattle.run.proofs.slot.run_slot.Reads as reads
-use Rattle.run.proofs.slot.run_slot.Lts as lts
-use Rattle.book.proofs.records.record_at.Reads as record-at-reads
-use Rattle.plans.proofs.grants.GrantSet.empty.Reads as empty-reads
-use Rattle.run.proofs.slot.take_turn.Reads as take-turn-reads
-use Rattle.run.proofs.slot.turn_of.Reads as turn-of-reads
 
 abbrev Inv-loop : tie.InvT-loop
 Inv-loop flows rows records steps firsts grants₀ slot places₀ made₀ start₀ i₀ grants places made start i =
@@ -67,39 +61,31 @@ start-few c =
       taken,
     )
 
--- src/slot.rt:116:14
 empty-requires : tie.Need-empty-requires Inv-loop μ-loop
 empty-requires c κs = search needs
 
--- src/slot.rt:121:5
 loop-holds : tie.Need-loop-holds Inv-loop μ-loop
 unfolding firstStep sumTo
 loop-holds c =
     let a = c .before .before .before .before .before .before .before .args in
     (omega arith, refl, chosen-none (a .flows) (now (a .rows)) (now (a .records)) (now (a .steps)) (λ k. getD (now (a .firsts)) k 0) (a .run) (now (a .grants)) (c .empty .result) (c .empty .ensures))
 
--- src/slot.rt:122:13
 record-at-requires : tie.Need-record-at-requires Inv-loop μ-loop
 record-at-requires c κs = search needs
 
--- src/slot.rt:123:39
 mul-t20 : tie.Need-mul-t20 Inv-loop μ-loop
 mul-t20 c = search needs
 
--- src/slot.rt:123:39
 element-copy-out-t23 : tie.Need-element-copy-out-t23 Inv-loop μ-loop
 element-copy-out-t23 c = search needs
 
--- src/slot.rt:123:57
 array-copy-out-turn-of : tie.Need-array-copy-out-turn-of Inv-loop μ-loop
 array-copy-out-turn-of c = search needs
 
--- src/slot.rt:123:13
 turn-of-requires : tie.Need-turn-of-requires Inv-loop μ-loop
 unfolding flowIn
 turn-of-requires c κs = rw (c .before .before .record-at .ensures) (c .before .before .before .before .before .before .before .before .before .before .before .before .pre .0 .fields (c .before .before .before .before .loop .i) (c .before .before .before .loop-test .taken) .period .0)
 
--- src/slot.rt:124:13
 take-turn-requires : tie.Need-take-turn-requires Inv-loop μ-loop
 take-turn-requires c κs =
     let start = c .before .before .before .before .before .before .before .before .before .before .before .before .before .before in
@@ -109,27 +95,21 @@ take-turn-requires c κs =
     (turn-room (a .flows) (now (a .rows)) (now (a .records)) (now (a .steps)) (λ k. getD (now (a .firsts)) k 0) (a .run) (start .pre .0) (loop .i)
     (c .before .before .before .before .before .loop-test .taken) (now (a .grants)) (loop .places) (loop .made) (loop .grants) (loop .inv .2) (start .pre .1))
 
--- src/slot.rt:128:9
 array-set-from-places : tie.Need-array-set-from-places Inv-loop μ-loop
 array-set-from-places c = omega (arith, c .before .before .before .before .before .before .before .before .before .before .loop-test .taken, c .before .before .before .before .before .before .before .before .before .before .before .before .before .before .before .before .before .before .before .pre .0 .most)
 
--- src/slot.rt:129:18
 cast-start : tie.Need-cast-start Inv-loop μ-loop
 cast-start c = search needs
 
--- src/slot.rt:129:9
 add-start : tie.Need-add-start Inv-loop μ-loop
 add-start c = omega (arith, start-few (c .before .before .before .before .before .before .before .before .before .before))
 
--- src/slot.rt:130:9
 add-i : tie.Need-add-i Inv-loop μ-loop
 add-i c = omega (arith, c .before .before .before .before .before .before .before .before .before .before .before .loop-test .taken, c .before .before .before .before .before .before .before .before .before .before .before .before .before .before .before .before .before .before .before .before .pre .0 .most)
 
--- src/slot.rt:121:5
 loop-less : tie.Need-loop-less Inv-loop μ-loop
 loop-less c = search needs
 
--- src/slot.rt:121:5
 loop-again : tie.Need-loop-again Inv-loop μ-loop
 unfolding firstStep factsOf flowIn
 loop-again c =
@@ -146,11 +126,9 @@ loop-again c =
           (omega (arith, taken, start .pre .0 .most, loop .inv .2 .size, start .pre .3)) (rw (turning (c .before .before .before .before .before .before .before)) at (c .before .before .before .before .before .take-turn .ensures))),
     )
 
--- src/slot.rt:134:24
 add-t32 : tie.Need-add-t32 Inv-loop μ-loop
 add-t32 c = search needs
 
--- src/slot.rt:101:1
 same-length : tie.Need-same-length Inv-loop μ-loop
 same-length c =
     let start = c .before .before .before .before .before .before .before .before .before .before in
@@ -159,7 +137,6 @@ same-length c =
     chosen-length (a .flows) (now (a .rows)) (now (a .records)) (now (a .steps)) (λ k. getD (now (a .firsts)) k 0) (a .run) (now (a .grants)) (loop .i)
     (loop .places) (loop .made) (loop .grants) (loop .inv .2) (loop .inv .0) (start .pre .1)
 
--- src/slot.rt:101:1
 returns : tie.Need-returns Inv-loop μ-loop
 returns c =
     let a = c .before .before .before .before .before .before .before .before .before .before .args in

@@ -1,7 +1,6 @@
 -- `run::slot::take_turn`: a flow that has finished waits, one whose next step clashes waits, and any other goes. Assumes nothing.
-use Prim.Native.Nat.{ℕ, _-_, _*_, _<_}
-use mathlib.Core.Path.{_≡_, refl, sym, _∙_, ap}
-use mathlib.Core.Bool.{true, false}
+use Prim.Native.Nat.{ℕ, _-_, _*_}
+use mathlib.Core.Path.{_≡_, sym, _∙_, ap}
 use mathlib.Core.List.{List}
 use native.Mathlib.Omega.{arith}
 use denote.Ref.{now}
@@ -13,17 +12,11 @@ use Rattle.trade.specs.declared.node.Transmission.{Transmission}
 use Rattle.plans.specs.Grants.{clashesWith, Grown}
 use Rattle.book.specs.Written.{pastedAt}
 use Rattle.run.specs.States.{bytesOf}
-use Rattle.run.specs.Turns.{nextOf, grantNow, Turned}
+use Rattle.run.specs.Turns.{nextOf, grantNow}
 use Rattle.run.proofs.Turning.{pasted-over, turned-finished, turned-clashes, turned-goes}
 use borrow.Author.Needs.{needs}
 use Rattle.run.proofs.slot.take_turn.Statement.{statement}
 use Rattle.run.proofs.slot.take_turn.Tie as tie
-use Rattle.run.proofs.slot.take_turn.Reads as reads
-use Rattle.run.proofs.slot.take_turn.Lts as lts
-use Rattle.plans.proofs.grants.GrantSet.clashes.Reads as clashes-reads
-use Rattle.plans.proofs.grants.GrantSet.with.Reads as with-reads
-use Rattle.plans.proofs.steps.step_at.Reads as step-at-reads
-use Rattle.run.proofs.writer.write_grant.Reads as write-grant-reads
 
 -- what the set is asked is whether the flow's next step clashes
 clashing :
@@ -58,78 +51,61 @@ wrote c =
     (c .before .before .before .before .before .before .before .step-at .ensures))
     ∙ pasted-over at (bytesOf (grantNow (now (a .steps)) (a .turn))) d (start .pre .grant)
 
--- src/slot.rt:74:25
 cast-if1 : tie.Need-cast-if1
 cast-if1 c = search needs
 
--- src/slot.rt:75:9
 returns : tie.Need-returns
 returns c =
     let a = c .before .before .before .before .before .before .before .args in
     turned-finished (now (a .rows)) (now (a .steps)) (a .turn) (a .made) (now (a .grants)) (c .if1 .taken)
 
--- src/slot.rt:77:41
 cast-step-at : tie.Need-cast-step-at
 cast-step-at c = search needs
 
--- src/slot.rt:77:28
 add-step-at : tie.Need-add-step-at
 add-step-at c = omega (arith, c .before .before .before .before .before .before .before .before .before .pre .step (c .before .before .if1 .left))
 
--- src/slot.rt:77:9
 step-at-requires : tie.Need-step-at-requires
 step-at-requires c κs = c .before .before .before .before .before .before .before .before .before .pre .step (c .before .before .if1 .left)
 
--- src/slot.rt:79:8
 clashes-requires : tie.Need-clashes-requires
 unfolding nextOf
 clashes-requires c κs = rw (c .before .step-at .ensures) (c .before .before .before .before .before .before .before .before .before .before .before .pre .within (c .before .before .before .before .if1 .left))
 
--- src/slot.rt:80:9
 returns-2 : tie.Need-returns-2
 returns-2 c =
     let a = c .before .before .before .before .before .before .before .before .before .before .before .before .before .args in
     turned-clashes (now (a .rows)) (now (a .steps)) (a .turn) (a .made) (now (a .grants)) (c .before .before .before .before .before .before .if1 .left)
     (sym (clashing (c .before)) ∙ c .if2 .taken)
 
--- src/slot.rt:82:14
 mul-at : tie.Need-mul-at
 mul-at c = omega (arith, c .before .before .before .before .before .before .before .before .before .before .before .before .before .before .pre .grant, c .before .before .before .before .before .before .before .before .before .before .before .before .before .before .good .1 .1 .1 .1 .0 .0)
 
--- src/slot.rt:90:17
 sub-write-grant : tie.Need-sub-write-grant
 sub-write-grant c = search needs
 
--- src/slot.rt:90:17
 part-write-grant-start : tie.Need-part-write-grant-start
 part-write-grant-start c = search needs
 
--- src/slot.rt:90:17
 part-write-grant-end : tie.Need-part-write-grant-end
 part-write-grant-end c = search needs
 
--- src/slot.rt:90:5
 write-grant-requires : tie.Need-write-grant-requires
 write-grant-requires c κs = search needs
 
--- src/slot.rt:93:18
 with-requires : tie.Need-with-requires
 unfolding nextOf
 with-requires c κs = rw (c .before .before .before .before .before .before .before .before .before .step-at .ensures) (c .before .before .before .before .before .before .before .before .before .before .before .before .before .before .before .before .before .before .before .pre .within (c .before .before .before .before .before .before .before .before .before .before .before .before .if1 .left))
 
--- src/slot.rt:94:20
 add-t15 : tie.Need-add-t15
 add-t15 c = omega (arith, c .before .before .before .before .before .before .before .before .before .before .before .before .before .before .before .before .before .before .before .before .before .pre .grant, c .before .before .before .before .before .before .before .before .before .before .before .before .before .before .before .before .before .before .before .before .before .good .1 .1 .1 .1 .0 .0)
 
--- src/slot.rt:96:20
 add-t23 : tie.Need-add-t23
 add-t23 c = omega (arith, c .before .before .before .before .before .before .before .before .before .before .before .before .before .before .before .before .before .before .before .before .before .before .pre .len, c .before .before .before .before .before .before .before .before .before .before .before .before .before .before .before .if1 .left)
 
--- src/slot.rt:69:1
 same-length : tie.Need-same-length
 same-length c = search needs
 
--- src/slot.rt:69:1
 returns-3 : tie.Need-returns-3
 returns-3 c =
     let a = c .before .before .before .before .before .before .before .before .before .before .before .before .before .before .before .before .before .before .before .before .before .before .args in

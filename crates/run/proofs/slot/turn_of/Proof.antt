@@ -1,15 +1,10 @@
 -- `run::slot::turn_of` sets the steps done to 0 where an instance is released. Assumes nothing.
 use mathlib.Core.Path.{_≡_, sym, _∙_}
 use mathlib.Core.Logic.{⊎-elim}
-use Rattle.trade.specs.declared.clock.Step.{Step}
 use Rattle.run.specs.Turns.{turnOf, doneAfter}
 use borrow.Author.Needs.{needs}
 use Rattle.run.proofs.slot.turn_of.Statement.{statement}
 use Rattle.run.proofs.slot.turn_of.Tie as tie
-use Rattle.run.proofs.slot.turn_of.Reads as reads
-use Rattle.run.proofs.slot.turn_of.Lts as lts
-use Rattle.run.proofs.release.instance_at.Reads as instance-at-reads
-use Rattle.run.proofs.release.is_released.Reads as is-released-reads
 
 -- by either way, the steps done are those after the releases
 done-after :
@@ -21,15 +16,12 @@ done-after c =
     let known = c .before .is-released .ensures in
     ⊎-elim (λ w. w .1 ∙ rw (sym known ∙ w .0 .taken)) (λ w. w .2 ∙ rw (sym known ∙ w .0 .left)) (c .if1 .came)
 
--- src/slot.rt:55:19
 is-released-requires : tie.Need-is-released-requires
 is-released-requires c κs = search needs
 
--- src/slot.rt:62:19
 instance-at-requires : tie.Need-instance-at-requires
 instance-at-requires c κs = search needs
 
--- src/slot.rt:51:1
 returns : tie.Need-returns
 unfolding turnOf
 returns c =

@@ -1,8 +1,7 @@
 -- `run::start::started` makes one flow after another idle in the empty run. Assumes nothing.
-use Prim.Native.Nat.{ℕ, suc, _+_, _-_, _≤_, _<_}
-use mathlib.Core.Path.{_≡_, refl, sym, _∙_, ap}
+use Prim.Native.Nat.{ℕ, _-_, _≤_, _<_}
+use mathlib.Core.Path.{_≡_, _∙_, ap}
 use native.Mathlib.Omega.{arith}
-use denote.Ref.{now}
 use borrow.Author.Needs.{needs}
 use borrow.Author.Count.{below-more}
 use lib.ListN.{length, length-set}
@@ -14,11 +13,6 @@ use Rattle.run.specs.States.{placeOf}
 use Rattle.run.proofs.Places.{stored, unstored, unused}
 use Rattle.run.proofs.start.started.Statement.{statement}
 use Rattle.run.proofs.start.started.Tie as tie
-use Rattle.run.proofs.start.started.Reads as reads
-use Rattle.run.proofs.start.started.Lts as lts
-use Rattle.book.proofs.records.len_at.Reads as len-at-reads
-use Rattle.trade.proofs.state.Progress.idle.Reads as idle-reads
-use Rattle.trade.proofs.state.Run.empty.Reads as empty-reads
 
 abbrev Inv-loop : tie.InvT-loop
 Inv-loop flows rows records steps slot places₀ i₀ places i =
@@ -31,11 +25,9 @@ Inv-loop flows rows records steps slot places₀ i₀ places i =
 abbrev μ-loop : tie.MeasureT-loop
 μ-loop flows rows records steps slot places₀ i₀ places i = flows - i
 
--- src/start.rt:21:9
 empty-requires : tie.Need-empty-requires Inv-loop μ-loop
 empty-requires c κs = search needs
 
--- src/start.rt:25:5
 loop-holds : tie.Need-loop-holds Inv-loop μ-loop
 loop-holds c =
     let empty = c .before .before .empty .ensures in (
@@ -46,31 +38,24 @@ loop-holds c =
       λ k h. ap (λ (r : Run). placeOf (r .flows) k) empty ∙ unused k,
     )
 
--- src/start.rt:26:36
 len-at-requires : tie.Need-len-at-requires Inv-loop μ-loop
 len-at-requires c κs = search needs
 
--- src/start.rt:26:36
 cast-idle : tie.Need-cast-idle Inv-loop μ-loop
 cast-idle c = omega (arith, c .len-at .ensures .0, c .before .before .before .before .before .before .before .before .before .pre .fields (c .before .before .loop .i) (c .before .loop-test .taken) .len .1)
 
--- src/start.rt:26:21
 idle-requires : tie.Need-idle-requires Inv-loop μ-loop
 idle-requires c κs = search needs
 
--- src/start.rt:26:9
 array-set-from-places : tie.Need-array-set-from-places Inv-loop μ-loop
 array-set-from-places c = search needs
 
--- src/start.rt:27:9
 add-i : tie.Need-add-i Inv-loop μ-loop
 add-i c = search needs
 
--- src/start.rt:25:5
 loop-less : tie.Need-loop-less Inv-loop μ-loop
 loop-less c = search needs
 
--- src/start.rt:25:5
 loop-again : tie.Need-loop-again Inv-loop μ-loop
 loop-again c =
     let loop = c .before .before .before .loop in (
@@ -82,7 +67,6 @@ loop-again c =
       λ k h. unstored (loop .places) (loop .i) k _ (λ e. omega arith) ∙ loop .inv .4 k (omega arith),
     )
 
--- src/start.rt:17:1
 returns : tie.Need-returns Inv-loop μ-loop
 returns c =
     let loop = c .before .loop in

@@ -8,74 +8,55 @@ use Rattle.run.specs.States.{bytesOf}
 use borrow.Author.Needs.{needs}
 use Rattle.run.proofs.writer.write_grant.Statement.{statement}
 use Rattle.run.proofs.writer.write_grant.Tie as tie
-use Rattle.run.proofs.writer.write_grant.Reads as reads
-use Rattle.run.proofs.writer.write_grant.Lts as lts
 
--- src/writer.rt:17:15
 cast-part : tie.Need-cast-part
 cast-part c = search needs
 
--- src/writer.rt:17:5
 slice-write-part : tie.Need-slice-write-part
 slice-write-part c = search needs
 
--- src/writer.rt:18:15
 cast-part-2 : tie.Need-cast-part-2
 cast-part-2 c = search needs
 
--- src/writer.rt:18:5
 slice-write-part-2 : tie.Need-slice-write-part-2
 slice-write-part-2 c = simp length-set (omega arith)
 
--- src/writer.rt:19:15
 cast-part-3 : tie.Need-cast-part-3
 cast-part-3 c = search needs
 
--- src/writer.rt:19:5
 slice-write-part-3 : tie.Need-slice-write-part-3
 slice-write-part-3 c = simp length-set (omega arith)
 
--- src/writer.rt:20:15
 cast-part-4 : tie.Need-cast-part-4
 cast-part-4 c = search needs
 
--- src/writer.rt:20:5
 slice-write-part-4 : tie.Need-slice-write-part-4
 slice-write-part-4 c = simp length-set (omega arith)
 
--- src/writer.rt:21:15
 cast-part-5 : tie.Need-cast-part-5
 cast-part-5 c = search needs
 
--- src/writer.rt:21:5
 slice-write-part-5 : tie.Need-slice-write-part-5
 slice-write-part-5 c = simp length-set (omega arith)
 
--- src/writer.rt:22:15
 cast-part-6 : tie.Need-cast-part-6
 cast-part-6 c = search needs
 
--- src/writer.rt:22:5
 slice-write-part-6 : tie.Need-slice-write-part-6
 slice-write-part-6 c = simp length-set (omega arith)
 
--- src/writer.rt:23:5
 slice-write-part-7 : tie.Need-slice-write-part-7
 slice-write-part-7 c = simp length-set (omega arith)
 
--- src/writer.rt:24:5
 slice-write-part-8 : tie.Need-slice-write-part-8
 slice-write-part-8 c = simp length-set (omega arith)
 
--- src/writer.rt:25:5
 slice-write-part-9 : tie.Need-slice-write-part-9
 slice-write-part-9 c = simp length-set (omega arith)
 
--- src/writer.rt:11:1
 same-length : tie.Need-same-length
 same-length c = simp length-set
 
--- src/writer.rt:11:1
 returns : tie.Need-returns
 unfolding bytesOf twoBytes fourBytes over
 returns c =

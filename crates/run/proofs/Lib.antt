@@ -5,3 +5,5 @@ pub mod Choosing
 pub mod Refusing
 pub mod Prefix
 pub mod Advanced
+pub mod OpenBook
+pub mod Started

@@ -11,16 +11,13 @@ use Rattle.trade.specs.Facts.{factsOf, factsIn, said}
 use Rattle.trade.specs.Area.{stateIn}
 use Rattle.trade.specs.Calls.{readAnswer}
 use Rattle.trade.specs.declared.answer.Answer.{Answer}
-use Rattle.book.specs.Frame.{frameOf, Lies, openedOf}
-use Rattle.book.specs.declared.parts.Frame.{Frame}
+use Rattle.book.specs.Frame.{openedOf}
 use Rattle.book.specs.declared.parts.Opened.{Opened}
-use Rattle.book.proofs.Opening.{done-lies, open-frame}
-use Rattle.admission.specs.Formed.{Formed}
-use Rattle.admission.proofs.Opened.{book-formed}
 use Rattle.run.specs.States.{stateOf}
 use Rattle.run.specs.Refusals.{runAnswer}
 use Rattle.run.specs.Slots.{Ran}
 use Rattle.run.proofs.Refusing.{slot-runs}
+use Rattle.run.proofs.OpenBook.{OpenBook, open-book}
 use Rattle.run.proofs.Advanced.{refuses, read-answer, advance-refused, book-refused, area-short, grants-short, run-refused, advance-done}
 use borrow.Author.Needs.{needs}
 use Rattle.run.proofs.advance.advance.Statement.{statement}
@@ -39,32 +36,13 @@ use Rattle.run.proofs.slot.run_slot.Reads as run-slot-reads
 use Rattle.trade.proofs.answer.Answer.done.Reads as done-reads
 use Rattle.trade.proofs.answer.Answer.refused.Reads as refused-reads
 
--- a book that is done, and where its parts lie
-opened :
-    (c : tie.Else1)
-    → (readAnswer (now (c .before .before .before .before .before .before .before .args .book)) .code ≡ 0) × (c .before .before .before .open-book .result .frame ≡ frameOf (now (c .before .before .before .before .before .before .before .args .book)))
-opened c = open-frame (now (c .before .before .before .before .before .before .before .args .book)) (c .before .before .before .open-book .result) (c .before .before .before .open-book .ensures) (c .if1 .left)
-
-lies : (c : tie.Else1) → Lies (now (c .before .before .before .before .before .before .before .args .book)) (c .before .before .before .open-book .result .frame)
-lies c = rw (opened c .1) (done-lies (now (c .before .before .before .before .before .before .before .args .book)) (opened c .0))
-
--- its flows, and what its sections hold
-said-flows : (c : tie.Else1) → c .before .before .before .open-book .result .frame .flows ≡ said (now (c .before .before .before .before .before .before .before .args .book)) .flows
-unfolding frameOf said factsOf sectionsOf
-said-flows c = ap (λ (f : Frame). f .flows) (opened c .1)
-
-formed-at :
-    (c : tie.Else1)
-    → Formed (c .before .before .before .open-book .result .frame .flows) (sectionsOf (now (c .before .before .before .before .before .before .before .args .book)) .rows) (sectionsOf (now (c .before .before .before .before .before .before .before .args .book)) .records) (sectionsOf (now (c .before .before .before .before .before .before .before .args .book)) .steps)
-unfolding said factsOf
-formed-at c = rw (said-flows c) (book-formed (now (c .before .before .before .before .before .before .before .args .book)) (opened c .0))
-
-few : (c : tie.Else1) → said (now (c .before .before .before .before .before .before .before .args .book)) .flows ≤ mostFlows
-few c = rw (← said-flows c) (lies c .flows)
+-- the book passed
+opened : (c : tie.Else1) → OpenBook (now (c .before .before .before .before .before .before .before .args .book)) (c .before .before .before .open-book .result)
+opened c = open-book (now (c .before .before .before .before .before .before .before .args .book)) (c .before .before .before .open-book .result) (c .before .before .before .open-book .ensures) (c .if1 .left)
 
 -- the buffer has room
 lent : (c : tie.Else3) → grantBytes * said (now (c .before .before .before .before .before .before .before .before .before .before .args .book)) .flows ≤ length (now (c .before .before .before .before .before .before .before .before .before .before .args .grants))
-lent c = rw (← said-flows (c .before .before .before)) (c .if3 .left)
+lent c = rw (← opened (c .before .before .before) .flows) (c .if3 .left)
 
 -- the run that was read is refused as the area's is
 answered :
@@ -75,8 +53,8 @@ answered c =
     let a = c .before .before .before .before .before .before .before .before .before .before .before .before .before .before .args in
     let run = c .before .read-run in
     c .run-answer .ensures
-    ∙ ap₂ (λ (m : ℕ) (records : List ℕ). runAnswer (factsIn 0 m [] records []) (stateOf (run .result))) (said-flows (c .before .before .before .before .before .before .before)) (c .before .before .before .records-of .ensures)
-    ∙ read-answer (now (a .book)) (now (a .area)) (few (c .before .before .before .before .before .before .before)) (run .result) (run .ensures)
+    ∙ ap₂ (λ (m : ℕ) (records : List ℕ). runAnswer (factsIn 0 m [] records []) (stateOf (run .result))) (opened (c .before .before .before .before .before .before .before) .flows) (c .before .before .before .records-of .ensures)
+    ∙ read-answer (now (a .book)) (now (a .area)) (opened (c .before .before .before .before .before .before .before) .few) (run .result) (run .ensures)
 
 passed : (c : tie.Else4) → runAnswer (said (now (c .before .before .before .before .before .before .before .before .before .before .before .before .before .before .before .before .args .book))) (stateIn (now (c .before .before .before .before .before .before .before .before .before .before .before .before .before .before .before .before .args .area))) .code ≡ 0
 passed c = sym (ap (λ (r : Answer). r .code) (answered (c .before .before))) ∙ c .if4 .left
@@ -88,7 +66,7 @@ phased :
     → said (now (c .before .before .before .before .before .before .before .before .before .before .before .before .before .before .before .before .before .args .book)) .phase i ≡ getD (c .firsts-of .result) i 0
 unfolding said factsOf
 phased c i h =
-    sym (c .firsts-of .ensures i (rw (said-flows (c .before .before .before .before .before .before .before .before .before .before)) h) ∙ ap (λ (records : List ℕ). field records i 1) (c .before .before .before .before .before .before .records-of .ensures))
+    sym (c .firsts-of .ensures i (rw (opened (c .before .before .before .before .before .before .before .before .before .before) .flows) h) ∙ ap (λ (records : List ℕ). field records i 1) (c .before .before .before .before .before .before .records-of .ensures))
 
 -- and the slot has run over the book's sections
 ran :
@@ -99,7 +77,7 @@ ran :
     (c .run-slot .result)
     (c .run-slot .last .1 .1 .1 .1 .1 .1 .0)
 unfolding said factsOf
-ran c = rw (said-flows (c .before .before .before .before .before .before .before .before .before .before .before .before .before .before .before), c .before .before .before .before .rows-of .ensures, c .before .before .before .before .before .before .before .before .before .before .before .records-of .ensures, c .before .before .before .steps-of .ensures) at (c .run-slot .ensures)
+ran c = rw (opened (c .before .before .before .before .before .before .before .before .before .before .before .before .before .before .before) .flows, c .before .before .before .before .rows-of .ensures, c .before .before .before .before .before .before .before .before .before .before .before .records-of .ensures, c .before .before .before .steps-of .ensures) at (c .run-slot .ensures)
 
 -- src/advance.rt:45:9
 open-book-requires : tie.Need-open-book-requires
@@ -124,12 +102,12 @@ returns-2 : tie.Need-returns-2
 returns-2 c =
     let a = c .before .before .before .before .before .before .before .before .before .before .args in
     advance-refused (now (a .book)) (now (a .area)) (now (a .grants)) (c .refused .result)
-    (area-short (now (a .book)) (now (a .area)) (now (a .grants)) (opened (c .before .before .before) .0) (c .before .if2 .taken) ∙ sym (c .refused .ensures))
+    (area-short (now (a .book)) (now (a .area)) (now (a .grants)) (opened (c .before .before .before) .done) (c .before .if2 .taken) ∙ sym (c .refused .ensures))
     (refuses 12 0 (c .refused .ensures))
 
 -- src/advance.rt:55:23
 mul-if3 : tie.Need-mul-if3
-mul-if3 c = omega (arith, lies (c .before .before) .flows)
+mul-if3 c = omega (arith, opened (c .before .before) .lies .flows)
 
 -- src/advance.rt:56:9
 refused-requires-2 : tie.Need-refused-requires-2
@@ -140,13 +118,13 @@ returns-3 : tie.Need-returns-3
 returns-3 c =
     let a = c .before .before .before .before .before .before .before .before .before .before .before .args in
     advance-refused (now (a .book)) (now (a .area)) (now (a .grants)) (c .refused2 .result)
-    (grants-short (now (a .book)) (now (a .area)) (now (a .grants)) (opened (c .before .before .before .before) .0) (c .before .before .if2 .left) (rw (← said-flows (c .before .before .before .before)) (c .before .if3 .taken))
+    (grants-short (now (a .book)) (now (a .area)) (now (a .grants)) (opened (c .before .before .before .before) .done) (c .before .before .if2 .left) (rw (← opened (c .before .before .before .before) .flows) (c .before .if3 .taken))
     ∙ sym (c .refused2 .ensures))
     (refuses 12 0 (c .refused2 .ensures))
 
 -- src/advance.rt:58:9
 records-of-requires : tie.Need-records-of-requires
-records-of-requires c κs = lies (c .before .before .before)
+records-of-requires c κs = opened (c .before .before .before) .lies
 
 -- src/advance.rt:59:9
 read-run-requires : tie.Need-read-run-requires
@@ -155,7 +133,7 @@ read-run-requires c κs = search needs
 -- src/advance.rt:60:9
 run-answer-requires : tie.Need-run-answer-requires
 run-answer-requires c κs =
-    let formed = formed-at (c .before .before .before .before .before .before) in
+    let formed = opened (c .before .before .before .before .before .before) .formed in
     rw (c .before .before .records-of .ensures) (formed .recorded, λ i h. formed .fields i h .period .0, formed .most)
 
 -- src/advance.rt:62:9
@@ -168,27 +146,27 @@ returns-4 c =
     let a = c .before .before .before .before .before .before .before .before .before .before .before .before .before .before .before .before .args in
     let e = answered (c .before .before) in
     advance-refused (now (a .book)) (now (a .area)) (now (a .grants)) (c .before .before .run-answer .result)
-    (run-refused (now (a .book)) (now (a .area)) (now (a .grants)) (opened (c .before .before .before .before .before .before .before .before .before) .0) (c .before .before .before .before .before .before .before .if2 .left) (lent (c .before .before .before .before .before .before))
+    (run-refused (now (a .book)) (now (a .area)) (now (a .grants)) (opened (c .before .before .before .before .before .before .before .before .before) .done) (c .before .before .before .before .before .before .before .if2 .left) (lent (c .before .before .before .before .before .before))
     (λ z. c .if4 .taken (ap (λ (r : Answer). r .code) e ∙ z)) ∙ sym e)
     (c .if4 .taken)
 
 -- src/advance.rt:64:18
 firsts-of-requires : tie.Need-firsts-of-requires
-firsts-of-requires c κs = let formed = formed-at (c .before .before .before .before .before .before .before .before .before) in rw (c .before .before .before .before .before .records-of .ensures) (formed .most, formed .recorded)
+firsts-of-requires c κs = let formed = opened (c .before .before .before .before .before .before .before .before .before) .formed in rw (c .before .before .before .before .before .records-of .ensures) (formed .most, formed .recorded)
 
 -- src/advance.rt:67:9
 rows-of-requires : tie.Need-rows-of-requires
-rows-of-requires c κs = lies (c .before .before .before .before .before .before .before .before .before .before)
+rows-of-requires c κs = opened (c .before .before .before .before .before .before .before .before .before .before) .lies
 
 -- src/advance.rt:69:9
 steps-of-requires : tie.Need-steps-of-requires
-steps-of-requires c κs = lies (c .before .before .before .before .before .before .before .before .before .before .before)
+steps-of-requires c κs = opened (c .before .before .before .before .before .before .before .before .before .before .before) .lies
 
 -- src/advance.rt:65:9
 run-slot-requires : tie.Need-run-slot-requires
 run-slot-requires c κs =
     let run = c .before .before .before .before .before .before .before .before .read-run .ensures in (
-      rw (c .before .before .before .rows-of .ensures, c .before .before .before .before .before .before .before .before .before .before .records-of .ensures, c .before .before .steps-of .ensures) (formed-at (c .before .before .before .before .before .before .before .before .before .before .before .before .before .before)),
+      rw (c .before .before .before .rows-of .ensures, c .before .before .before .before .before .before .before .before .before .before .records-of .ensures, c .before .before .steps-of .ensures) (opened (c .before .before .before .before .before .before .before .before .before .before .before .before .before .before) .formed),
       c .before .before .before .before .before .before .before .before .before .before .before .if3 .left,
       rw (run .slot) (slot-runs _ _ (passed (c .before .before .before .before .before))),
       run .size,
@@ -216,8 +194,8 @@ returns-5 c =
     let a = c .before .before .before .before .before .before .before .before .before .before .before .before .before .before .before .before .before .before .before .before .before .before .before .before .before .before .before .before .before .before .args in
     let out = c .before .before .before .before .before .before .before .before .run-slot in
     rw (c .done .ensures, c .before .before .before .write-run .ensures)
-    (advance-done (now (a .book)) (now (a .area)) (now (a .grants)) (opened (c .before .before .before .before .before .before .before .before .before .before .before .before .before .before .before .before .before .before .before .before .before .before .before) .0) (c .before .before .before .before .before .before .before .before .before .before .before .before .before .before .before .before .before .before .before .before .before .if2 .left) (lent (c .before .before .before .before .before .before .before .before .before .before .before .before .before .before .before .before .before .before .before .before))
-    (passed (c .before .before .before .before .before .before .before .before .before .before .before .before .before .before)) (few (c .before .before .before .before .before .before .before .before .before .before .before .before .before .before .before .before .before .before .before .before .before .before .before)) (c .before .before .before .before .before .before .before .before .before .before .before .before .before .before .before .before .before .read-run .result) (c .before .before .before .before .before .before .before .before .before .before .before .before .before .before .before .before .before .read-run .ensures) (λ k. getD (c .before .before .before .before .before .before .before .before .before .before .before .before .before .firsts-of .result) k 0) (phased (c .before .before .before .before .before .before .before .before .before .before .before .before .before)) (out .result) _ (ran (c .before .before .before .before .before .before .before .before)))
+    (advance-done (now (a .book)) (now (a .area)) (now (a .grants)) (opened (c .before .before .before .before .before .before .before .before .before .before .before .before .before .before .before .before .before .before .before .before .before .before .before) .done) (c .before .before .before .before .before .before .before .before .before .before .before .before .before .before .before .before .before .before .before .before .before .if2 .left) (lent (c .before .before .before .before .before .before .before .before .before .before .before .before .before .before .before .before .before .before .before .before))
+    (passed (c .before .before .before .before .before .before .before .before .before .before .before .before .before .before)) (opened (c .before .before .before .before .before .before .before .before .before .before .before .before .before .before .before .before .before .before .before .before .before .before .before) .few) (c .before .before .before .before .before .before .before .before .before .before .before .before .before .before .before .before .before .read-run .result) (c .before .before .before .before .before .before .before .before .before .before .before .before .before .before .before .before .before .read-run .ensures) (λ k. getD (c .before .before .before .before .before .before .before .before .before .before .before .before .before .firsts-of .result) k 0) (phased (c .before .before .before .before .before .before .before .before .before .before .before .before .before)) (out .result) _ (ran (c .before .before .before .before .before .before .before .before)))
 
 pub advance-spec : {M : Type 1} → statement M
 advance-spec =

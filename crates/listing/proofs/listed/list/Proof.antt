@@ -1,10 +1,10 @@
--- `slotlist::list` is safe and ends: a book that opens has its parts where they were found, and no more flows than there are bounds.
+-- `listing::listed::list` is safe and ends: a book that opens has its parts where they were found, and no more flows than there are bounds.
 -- Assumes nothing.
 use denote.Ref.{now}
 use borrow.Author.Needs.{needs}
 use Rattle.run.proofs.OpenBook.{OpenBook, open-book}
-use Rattle.slotlist.proofs.list.Statement.{statement}
-use Rattle.slotlist.proofs.list.Tie as tie
+use Rattle.listing.proofs.listed.list.Statement.{statement}
+use Rattle.listing.proofs.listed.list.Tie as tie
 
 opened : (c : tie.Else1) → OpenBook (now (c .before .before .before .before .before .args .book)) (c .before .before .before .open-book .result)
 opened c = open-book _ _ (c .before .before .before .open-book .ensures) (c .if1 .left)

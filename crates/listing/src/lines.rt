@@ -7,21 +7,22 @@ use libc::STDOUT_FILENO;
 use trade::Answer;
 use trade::Flow;
 
-fn print(text: &[u8]) {
+// A word, or the end of a line.
+pub fn print(text: &[u8]) {
     io::write_all(STDOUT_FILENO, text);
 }
 
 // One more number of a line.
-fn print_next(n: u64) {
+pub fn print_next(n: u64) {
     print(b" ");
     io::print_decimal(STDOUT_FILENO, n);
 }
 
-fn print_byte(n: u8) {
+pub fn print_byte(n: u8) {
     print_next(n as u64);
 }
 
-fn print_word(n: u16) {
+pub fn print_word(n: u16) {
     print_next(n as u64);
 }
 

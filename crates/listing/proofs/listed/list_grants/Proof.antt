@@ -1,9 +1,9 @@
--- `slotlist::list_grants` is safe and ends: a place is below the last, and those that are left grow fewer. Assumes nothing.
+-- `listing::listed::list_grants` is safe and ends: a place is below the last, and those that are left grow fewer. Assumes nothing.
 use Prim.Native.Nat.{_≤_, _-_}
 use Rattle.trade.specs.Limits.{mostFlows}
 use borrow.Author.Needs.{needs}
-use Rattle.slotlist.proofs.list_grants.Statement.{statement}
-use Rattle.slotlist.proofs.list_grants.Tie as tie
+use Rattle.listing.proofs.listed.list_grants.Statement.{statement}
+use Rattle.listing.proofs.listed.list_grants.Tie as tie
 
 abbrev Inv-loop : tie.InvT-loop
 Inv-loop slot count grants i₀ i = i ≤ mostFlows

@@ -1,8 +1,8 @@
--- `slotlist::list_bounds` is safe and ends: the flows that are left grow fewer. Assumes nothing.
+-- `listing::listed::list_bounds` is safe and ends: the flows that are left grow fewer. Assumes nothing.
 use Prim.Native.Nat.{_≤_, _-_}
 use borrow.Author.Needs.{needs}
-use Rattle.slotlist.proofs.list_bounds.Statement.{statement}
-use Rattle.slotlist.proofs.list_bounds.Tie as tie
+use Rattle.listing.proofs.listed.list_bounds.Statement.{statement}
+use Rattle.listing.proofs.listed.list_bounds.Tie as tie
 
 abbrev Inv-loop : tie.InvT-loop
 Inv-loop flows records bounds i₀ i = i ≤ flows

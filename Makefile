@@ -1,8 +1,22 @@
-# The two commands of a newcomer: `make test` is the gate.
-.PHONY: test fmt
+# The commands of a newcomer: `make list` shows what the planner does, `make test` is the gate.
+.PHONY: list test bench fmt
+
+BOOK = examples/a.book
+
+# The listing of a book, by the proved program.
+list:
+	@mkdir -p target
+	@rt check slotlist >target/make.log 2>&1 || { cat target/make.log; exit 1; }
+	@tools/list.sh $(BOOK)
 
 test:
 	bash .ci/run
+
+# Calls per second of the archive, beside those of a planner in Rust.
+bench:
+	rt staticlib radio
+	host/build.sh target/staticlib/libradio.a
+	host/run.sh bench
 
 fmt:
 	rt fmt

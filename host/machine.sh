@@ -2,7 +2,7 @@
 #   rustc, rust_target   the compiler and its options
 #   cc                   the C compiler
 #   emulator             what stands in front of a program, empty if nothing has to
-# On an Arm machine the Debian packages that this takes are installed when they are missing.
+# The Debian packages that this takes are installed when they are missing.
 
 rust_target=
 emulator=
@@ -11,10 +11,19 @@ wants() {
     command -v "$1" >/dev/null || { echo "host: $1 is missing: $2" >&2; exit 1; }
 }
 
+# brings PACKAGE..
+brings() {
+    echo "host: installing from Debian: $*" >&2
+    apt-get -qq update
+    DEBIAN_FRONTEND=noninteractive apt-get -qq -y --no-install-recommends install "$@" >/dev/null
+}
+
 case $(uname -m) in
 x86_64)
     rustc=${RUSTC:-rustc}
     cc=${CC:-cc}
+    command -v "$rustc" >/dev/null || brings rustc-web || brings rustc || true
+    command -v "$cc" >/dev/null || brings gcc libc6-dev || true
     wants "$rustc" "install Rust"
     wants "$cc" "install a C compiler"
     ;;
@@ -25,10 +34,8 @@ aarch64)
     emulator=qemu-x86_64
     packages="rustc-web libstd-rust-web-dev:amd64 gcc-x86-64-linux-gnu qemu-user"
     if ! dpkg-query -W $packages >/dev/null 2>&1; then
-        echo "host: installing for x86-64 on aarch64: $packages" >&2
         dpkg --add-architecture amd64
-        apt-get -qq update
-        DEBIAN_FRONTEND=noninteractive apt-get -qq -y --no-install-recommends install $packages >/dev/null
+        brings $packages
     fi
     wants "$rustc" "rustc-web did not bring it"
     wants "$cc" "gcc-x86-64-linux-gnu did not bring it"

@@ -1,0 +1,3 @@
+// What the programs print.
+pub mod lines;
+pub mod listed;

@@ -1,0 +1,33 @@
+-- `radio::slot_advance` meets its contract: it packs the answer of advance, whose number fits, and hands on the area and the grants.
+-- Assumes nothing.
+use borrow.Author.Needs.{needs}
+use Rattle.trade.specs.Calls.{advanceOf}
+use Rattle.trade.proofs.Numbers.{advance-number}
+use Rattle.radio.proofs.Packing.{fits, packs}
+use Rattle.radio.proofs.slot_advance.Statement.{statement}
+use Rattle.radio.proofs.slot_advance.Tie as tie
+
+advance-requires : tie.Need-advance-requires
+advance-requires c κs = search needs
+
+packed-requires : tie.Need-packed-requires
+unfolding advanceOf
+packed-requires c κs = fits (c .before .before .before .before .advance .ensures .answer) (advance-number _)
+
+same-length : tie.Need-same-length
+same-length c = search needs
+
+same-length-2 : tie.Need-same-length-2
+same-length-2 c = search needs
+
+returns : tie.Need-returns
+returns c =
+    record {
+      answer = packs (c .packed .ensures) (c .before .before .before .before .before .advance .ensures .answer);
+      area = c .before .before .before .before .before .advance .ensures .area;
+      grants = c .before .before .before .before .before .advance .ensures .grants;
+    }
+
+pub slot-advance-spec : {M : Type 1} → statement M
+slot-advance-spec =
+    tie.close (tie.spec advance-requires packed-requires same-length same-length-2 returns)

@@ -1,0 +1,27 @@
+-- `radio::slot_start` meets its contract: it packs the answer of start, whose number fits, and hands on the area. Assumes nothing.
+use borrow.Author.Needs.{needs}
+use Rattle.trade.specs.Calls.{startOf}
+use Rattle.trade.proofs.Numbers.{start-number}
+use Rattle.radio.proofs.Packing.{fits, packs}
+use Rattle.radio.proofs.slot_start.Statement.{statement}
+use Rattle.radio.proofs.slot_start.Tie as tie
+
+start-requires : tie.Need-start-requires
+start-requires c κs = search needs
+
+packed-requires : tie.Need-packed-requires
+unfolding startOf
+packed-requires c κs = fits (c .before .before .start .ensures .answer) (start-number _)
+
+same-length : tie.Need-same-length
+same-length c = search needs
+
+returns : tie.Need-returns
+returns c =
+    record {
+      answer = packs (c .packed .ensures) (c .before .before .before .start .ensures .answer);
+      area = c .before .before .before .start .ensures .area;
+    }
+
+pub slot-start-spec : {M : Type 1} → statement M
+slot-start-spec = tie.close (tie.spec start-requires packed-requires same-length returns)

@@ -11,7 +11,7 @@ use trade::Flow;
 use trade::Node;
 
 // How many bytes agree, from the front of a book on.
-fn agreeing(book: &[u8], buffer: &[u8]) -> u64 {
+pub fn agreeing(book: &[u8], buffer: &[u8]) -> u64 {
     let mut i = 0;
     while i < book.len() {
         if buffer.len() <= i {

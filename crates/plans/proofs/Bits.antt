@@ -1,20 +1,21 @@
 -- Bits of masks: of a union, of a common part, of one node, and of a row. Leans on lib.Bits. Assumes nothing.
 use Prim.Native.Nat.{ℕ, zero, suc, _+_, _-_, _*_, _/_, _%_, _^_, _≤_, _<_}
 use mathlib.Core.Path.{_≡_, refl, sym, _∙_, ap, ap₂}
-use mathlib.Core.Bool.{Bool, true, false, not, _&&_, _||_}
+use mathlib.Core.Bool.{Bool, true, false, not, cond, _&&_, _||_}
 use mathlib.Core.Logic.{_⊎_, inl, inr, ⊎-elim}
 use mathlib.Core.List.{List}
 use native.Mathlib.Omega.{arith}
-use native.Mathlib.Nat.{div-one, zero-div, pow-suc, mod-lt, mul-mod-left, mul-div-cancel, add-zero, zero-add, suc-add, mul-assoc, zero-mul, one-mul}
+use native.Mathlib.Nat.{div-one, zero-div, pow-suc, mod-lt, mul-mod-left, mul-div-cancel, add-zero, zero-add, suc-add, mul-assoc, zero-mul, one-mul, mod-eq-of-lt}
 use native.Mathlib.Numerals.{one-add}
 use lib.Dec.{eqb, eqb·zero-suc, eqb·suc-zero, eqb·suc-suc}
-use lib.Bits.{bitOr, bitAnd, or-shr, or-mod, and-shr, and-mod, and-block, and-mask, and-zero-r, or-add-and, and-le-r, block-half, block-odd}
-use lib.Pow.{pow-pos, shr-shr, split, high}
+use lib.Bits.{bitOr, bitAnd, bitXor, or-shr, or-mod, and-shr, and-mod, xor-shr, xor-mod, and-block, and-mask, and-zero-r, or-add-and, and-le-r, block-half, block-odd}
+use lib.Pow.{pow-pos, pow-lt, shr-shr, split, high}
 use lib.Arith.{bin-ind, digits-lt}
 use borrow.Author.Tests.{ne-eqb}
 use Rattle.trade.specs.Limits.{rowBytes, mostNodes}
 use Rattle.trade.specs.Bytes.{byte, bit}
 use Rattle.trade.specs.Facts.{disturbsIn}
+use Rattle.trade.specs.Interference.{one}
 use Rattle.trade.proofs.First.{lt-or-ge}
 use Rattle.plans.specs.Mask.{only, meets, lowFirst, rowMask}
 
@@ -32,19 +33,58 @@ unfolding bit
 bit-none y = rw zero-div
 
 -- a number's last bit is 0 or 1
-last-cases : (n : ℕ) → (n % 2 ≡ 0) ⊎ (n % 2 ≡ 1)
+pub last-cases : (n : ℕ) → (n % 2 ≡ 0) ⊎ (n % 2 ≡ 1)
 last-cases n = ⊎-elim (λ (h : n % 2 < 1). inl (omega arith)) (λ (h : 1 ≤ n % 2). inr (omega (arith, mod-lt n {m = 2} (omega arith)))) (lt-or-ge (n % 2) 1)
 
--- a node is in a union if it is in either
-pub bit-or : (a b y : ℕ) → bit (bitOr a b) y ≡ (bit a y || bit b y)
-bit-or a b zero = rw (bit-zero (bitOr a b), bit-zero a, bit-zero b, or-mod a b 1) (cases (last-cases a) (last-cases b))
+last-one : (n : ℕ) → n % 2 ≡ one (eqb (n % 2) 1)
+unfolding one
+last-one n = cases (last-cases n)
   where
-    cases : (a % 2 ≡ 0) ⊎ (a % 2 ≡ 1) → (b % 2 ≡ 0) ⊎ (b % 2 ≡ 1) → eqb (bitOr (a % 2) (b % 2)) 1 ≡ (eqb (a % 2) 1 || eqb (b % 2) 1)
-    cases (inl p) (inl q) = rw (p, q)
-    cases (inl p) (inr q) = rw (p, q)
-    cases (inr p) (inl q) = rw (p, q)
-    cases (inr p) (inr q) = rw (p, q)
-bit-or a b (suc y) = rw (bit-suc (bitOr a b) y, bit-suc a y, bit-suc b y, or-shr a b 1) (bit-or (a / 2) (b / 2) y)
+    cases : (n % 2 ≡ 0) ⊎ (n % 2 ≡ 1) → n % 2 ≡ one (eqb (n % 2) 1)
+    cases (inl e) = rw e
+    cases (inr e) = rw e
+
+-- an operation on sets that goes by halves, and on last bits as a test does, goes by that test at every node
+module _ (op : ℕ → ℕ → ℕ) (test : Bool → Bool → Bool)
+    (shr : (a b k : ℕ) → op a b / 2 ^ k ≡ op (a / 2 ^ k) (b / 2 ^ k))
+    (rem : (a b k : ℕ) → op a b % 2 ^ k ≡ op (a % 2 ^ k) (b % 2 ^ k))
+    (last : (p q : Bool) → eqb (op (one p) (one q)) 1 ≡ test p q) where
+  bit-by : (a b y : ℕ) → bit (op a b) y ≡ test (bit a y) (bit b y)
+  bit-by a b zero =
+      rw (bit-zero (op a b), bit-zero a, bit-zero b)
+      (ap (λ (n : ℕ). eqb n 1) (rem a b 1 ∙ ap₂ op (last-one a) (last-one b)) ∙ last (eqb (a % 2) 1) (eqb (b % 2) 1))
+  bit-by a b (suc y) = rw (bit-suc (op a b) y, bit-suc a y, bit-suc b y, shr a b 1) (bit-by (a / 2) (b / 2) y)
+
+-- a node is in a union if it is in either, in a common part if it is in both, and in a difference if it is in one of the two
+pub bit-or : (a b y : ℕ) → bit (bitOr a b) y ≡ (bit a y || bit b y)
+unfolding one
+bit-or = bit-by bitOr _||_ or-shr or-mod last
+  where
+    last : (p q : Bool) → eqb (bitOr (one p) (one q)) 1 ≡ (p || q)
+    last true true = refl
+    last true false = refl
+    last false true = refl
+    last false false = refl
+
+pub bit-and : (a b y : ℕ) → bit (bitAnd a b) y ≡ (bit a y && bit b y)
+unfolding one
+bit-and = bit-by bitAnd _&&_ and-shr and-mod last
+  where
+    last : (p q : Bool) → eqb (bitAnd (one p) (one q)) 1 ≡ (p && q)
+    last true true = refl
+    last true false = refl
+    last false true = refl
+    last false false = refl
+
+pub bit-xor : (a b y : ℕ) → bit (bitXor a b) y ≡ cond (bit a y) (not (bit b y)) (bit b y)
+unfolding one
+bit-xor = bit-by bitXor (λ p q. cond p (not q) q) xor-shr xor-mod last
+  where
+    last : (p q : Bool) → eqb (bitXor (one p) (one q)) 1 ≡ cond p (not q) q
+    last true true = refl
+    last true false = refl
+    last false true = refl
+    last false false = refl
 
 -- the set of one node has that node alone
 pub bit-only : (x y : ℕ) → bit (only x) y ≡ eqb x y
@@ -66,6 +106,17 @@ bit-below a r (suc k) (suc y) h =
 pub bit-above : (a r k y : ℕ) → r < 2 ^ k → bit (a * 2 ^ k + r) (k + y) ≡ bit a y
 unfolding bit
 bit-above a r k y h = rw (← shr-shr (a * 2 ^ k + r) k y, high a k h)
+
+-- a set has no node at or above a place that its number is below
+pub bit-past : (n k y : ℕ) → n < 2 ^ k → k ≤ y → bit n y ≡ false
+bit-past n k y h l =
+    let e : n ≡ 0 * 2 ^ k + n = omega arith in
+    let d : k + (y - k) ≡ y = omega arith in
+    ap₂ bit e (sym d) ∙ bit-above 0 n k (y - k) h ∙ bit-none (y - k)
+
+-- one bit of 64, shifted to its place
+pub one-bit : (p : ℕ) → p < 64 → 1 * 2 ^ p % 2 ^ 64 ≡ only p
+one-bit p l = rw one-mul (mod-eq-of-lt (pow-lt {j = 64} l))
 
 -- bit y of a run of bytes is bit y mod 8 of byte y div 8
 pub bit-lowFirst :
@@ -187,3 +238,21 @@ meets-only r x = ap (λ (n : ℕ). not (eqb n 0)) (and-only r x) ∙ cases (last
     cases : (r / 2 ^ x % 2 ≡ 0) ⊎ (r / 2 ^ x % 2 ≡ 1) → not (eqb ((r / 2 ^ x % 2) * 2 ^ x) 0) ≡ eqb (r / 2 ^ x % 2) 1
     cases (inl e) = rw (e, zero-mul)
     cases (inr e) = rw (e, one-mul, ne-eqb (2 ^ x) 0 (λ (z : 2 ^ x ≡ 0). omega (arith, pow-pos x)))
+
+-- sets that have the same nodes are the same
+same-last : (a b : ℕ) → bit a 0 ≡ bit b 0 → a % 2 ≡ b % 2
+unfolding one
+same-last a b e = last-one a ∙ ap one (sym (bit-zero a) ∙ e ∙ bit-zero b) ∙ sym (last-one b)
+
+same-halves : (a b : ℕ) → ((y : ℕ) → bit a y ≡ bit b y) → (y : ℕ) → bit (a / 2) y ≡ bit (b / 2) y
+same-halves a b same y = sym (bit-suc a y) ∙ same (suc y) ∙ bit-suc b y
+
+no-bits : (b : ℕ) → ((y : ℕ) → bit 0 y ≡ bit b y) → 0 ≡ b
+no-bits =
+    bin-ind (λ (b : ℕ). ((y : ℕ) → bit 0 y ≡ bit b y) → 0 ≡ b) (λ same. refl)
+    (λ b rest same. halves 0 b (rest (same-halves 0 b same)) (same-last 0 b (same 0)))
+
+pub same-bits : (a b : ℕ) → ((y : ℕ) → bit a y ≡ bit b y) → a ≡ b
+same-bits =
+    bin-ind (λ (a : ℕ). (b : ℕ) → ((y : ℕ) → bit a y ≡ bit b y) → a ≡ b) no-bits
+    (λ a rest b same. halves a b (rest (b / 2) (same-halves a b same)) (same-last a b (same 0)))

@@ -111,6 +111,13 @@ worst-at-most marks rows i j (suc k) =
     largest-below (λ (c : ℕ). one (marks c j) + worst marks rows c (suc j) k) i (rows - i) (suc k)
     (λ c l h. omega (arith, one-le (marks c j), worst-at-most marks rows c (suc j) k))
 
+-- so many zeros, and zeros past them
+pub zeros : (n i : ℕ) → getD {A = ℕ} (replicate n 0) i 0 ≡ 0
+zeros n i =
+    ⊎-elim (λ (h : i < n). getD-replicate n i 0 0 h)
+    (λ (h : n ≤ i). List·getD-eq-default (replicate n 0) 0 (rw (length-replicate {A = ℕ} n 0) h))
+    (lt-or-ge i n)
+
 -- the line before any column
 abbrev pub blank : List ℕ
 blank = replicate mostSteps 0
@@ -122,19 +129,13 @@ pub record Columns (marks : Matrix) (rows columns : ℕ) (line : List ℕ) (j : 
   pub figures : (i : ℕ) → getD line i 0 ≡ worst marks rows i j (columns - j)
 
 module _ (marks : Matrix) (rows columns : ℕ) where
-  zeros : (i : ℕ) → getD blank i 0 ≡ 0
-  zeros i =
-      ⊎-elim (λ (h : i < mostSteps). getD-replicate mostSteps i 0 0 h)
-      (λ (h : mostSteps ≤ i). List·getD-eq-default blank 0 h)
-      (lt-or-ge i mostSteps)
-
   pub columns-none : Columns marks rows columns blank columns
   unfolding worst
   columns-none =
       record {
         within = omega arith;
         size = length-replicate {A = ℕ} mostSteps 0;
-        figures = λ i. let e : columns - columns ≡ 0 = omega arith in rw e (zeros i);
+        figures = λ i. let e : columns - columns ≡ 0 = omega arith in rw e (zeros mostSteps i);
       }
 
   -- no figure is above the number of columns worked in

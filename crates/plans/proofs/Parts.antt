@@ -2,9 +2,11 @@
 -- of two such parts is that of the two flows. Leans on the trade's Sums. Assumes nothing.
 use Prim.Native.Nat.{ℕ, zero, suc, _+_, _-_, _*_, _≤_, _<_, min}
 use mathlib.Core.Path.{_≡_, refl, sym, _∙_, ap, ap₂}
+use mathlib.Core.Bool.{Bool}
 use mathlib.Core.List.{List, []}
 use mathlib.Core.Logic.{⊎-elim}
 use native.Mathlib.Omega.{arith}
+use native.Mathlib.Nat.{add-suc, zero-add}
 use lib.ListN.{length, take, drop, length-take, length-drop, drop-of-length-le}
 use lib.Seq.{getD-take, getD-drop, take-all, take-nil}
 use borrow.Author.Tests.{lt-ltb, le-ltb}
@@ -21,25 +23,26 @@ use Rattle.plans.specs.Network.{Within, AllWithin}
 use Rattle.plans.specs.Line.{stepsIn, marksOf}
 use Rattle.plans.specs.Plan.{planIn, noStep, stepOr, planStep}
 
--- matrices that agree at every step of l and of h have the same worst path
-worst-agree :
-    (marks other : Matrix) (rows columns : ℕ)
-    → ((i j : ℕ) → i < rows → j < columns → marks i j ≡ other i j)
-    → (i j k : ℕ)
-    → j + k ≤ columns
-    → worst marks rows i j k ≡ worst other rows i j k
+-- matrices that agree at every step of l and of h, the columns of one standing so many places further, have the same worst path
+pub worst-shifted :
+    (marks other : Matrix) (rows d k i j : ℕ)
+    → ((c b : ℕ) → c < rows → b < j + k → marks c (d + b) ≡ other c b)
+    → worst marks rows i (d + j) k ≡ worst other rows i j k
 unfolding worst
-worst-agree marks other rows columns e i j zero h = refl
-worst-agree marks other rows columns e i j (suc k) h =
-    largest-cong (λ (c : ℕ). one (marks c j) + worst marks rows c (suc j) k) (λ (c : ℕ). one (other c j) + worst other rows c (suc j) k) i (rows - i)
-    (λ c l u. ap₂ _+_ (ap one (e c j (omega arith) (omega arith))) (worst-agree marks other rows columns e c (suc j) k (omega arith)))
+worst-shifted marks other rows d zero i j same = refl
+worst-shifted marks other rows d (suc k) i j same =
+    largest-cong _ _ i (rows - i)
+    (λ c l u.
+    ap₂ (λ (m : Bool) (w : ℕ). one m + w) (same c j (omega arith) (omega arith))
+    (rw (← add-suc d j) (worst-shifted marks other rows d k c (suc j) (λ e b g h. same e b g (omega arith)))))
 
 pub paths-agree :
     (marks other : Matrix) (rows columns : ℕ)
     → ((i j : ℕ) → i < rows → j < columns → marks i j ≡ other i j)
     → worstPath marks rows columns ≡ worstPath other rows columns
 unfolding worstPath
-paths-agree marks other rows columns e = worst-agree marks other rows columns e 0 0 columns (omega arith)
+paths-agree marks other rows columns e =
+    worst-shifted marks other rows 0 columns 0 0 (λ c b l h. rw (zero-add b) (e c b l (omega arith)))
 
 -- from one node to another
 abbrev sent : ℕ → ℕ → Transmission

@@ -1,0 +1,110 @@
+-- `plans::columns::note` spreads a step's two marks. Assumes nothing.
+use Prim.Native.Nat.{ℕ, _+_}
+use mathlib.Core.Path.{_∙_, ap}
+use mathlib.Core.Bool.{Bool, _||_}
+use mathlib.Core.List.{List}
+use native.Mathlib.Omega.{arith}
+use lib.Bits.{bitOr}
+use lib.Dec.{eqb}
+use lib.ListN.{getD}
+use Rattle.trade.specs.declared.node.Transmission.{Transmission}
+use Rattle.plans.specs.Mask.{rowMask}
+use Rattle.plans.specs.Columns.{receiving, sending}
+use Rattle.plans.proofs.Bits.{bit-row, one-bit}
+use Rattle.plans.proofs.Spreading.{noted, ends}
+use borrow.Author.Needs.{needs}
+use Rattle.plans.proofs.columns.note.Statement.{statement}
+use Rattle.plans.proofs.columns.note.Tie as tie
+use Rattle.plans.proofs.columns.note.Reads as reads
+use Rattle.plans.proofs.columns.note.Lts as lts
+use Rattle.plans.proofs.columns.spread.Reads as spread-reads
+use Rattle.plans.proofs.mask.only.Reads as only-reads
+use Rattle.plans.proofs.mask.row_mask.Reads as row-mask-reads
+
+-- src/columns.rt:56:16
+only-requires : tie.Need-only-requires
+only-requires c κs = search needs
+
+-- src/columns.rt:56:33
+only-requires-2 : tie.Need-only-requires-2
+only-requires-2 c κs = search needs
+
+-- src/columns.rt:57:21
+row-mask-requires : tie.Need-row-mask-requires
+row-mask-requires c κs = search needs
+
+-- src/columns.rt:58:30
+cast-sending : tie.Need-cast-sending
+cast-sending c = search needs
+
+-- src/columns.rt:58:19
+mul-sending : tie.Need-mul-sending
+mul-sending c = search needs
+
+-- src/columns.rt:58:19
+element-copy-out-sending : tie.Need-element-copy-out-sending
+element-copy-out-sending c = search needs
+
+-- src/columns.rt:59:32
+shl-spread : tie.Need-shl-spread
+shl-spread c = search needs
+
+-- src/columns.rt:59:5
+spread-requires : tie.Need-spread-requires
+spread-requires c κs = search needs
+
+-- src/columns.rt:60:36
+add-spread : tie.Need-add-spread
+add-spread c = search needs
+
+-- src/columns.rt:60:30
+shl-spread-2 : tie.Need-shl-spread-2
+shl-spread-2 c = search needs
+
+-- src/columns.rt:60:5
+spread-requires-2 : tie.Need-spread-requires-2
+spread-requires-2 c κs = search needs
+
+-- src/columns.rt:52:1
+same-length : tie.Need-same-length
+same-length c = search needs
+
+-- src/columns.rt:52:1
+-- the sets that the marks are spread over
+abbrev receivers : tie.After-slice-known3 → ℕ
+receivers c = bitOr (c .before .before .before .before .before .before .before .before .before .before .row-mask .result) (bitOr (c .before .before .before .before .before .before .before .before .before .before .before .before .only .result) (c .before .before .before .before .before .before .before .before .before .before .before .only2 .result))
+
+abbrev senders : tie.After-slice-known3 → ℕ
+senders c = bitOr (getD (c .before .before .before .before .before .before .before .before .before .before .before .before .before .before .before .args .disturbers .now) (c .before .before .before .before .before .before .before .before .before .before .before .before .before .before .before .args .u .receiver .0) 0) (bitOr (c .before .before .before .before .before .before .before .before .before .before .before .before .only .result) (c .before .before .before .before .before .before .before .before .before .before .before .only2 .result))
+
+returns : tie.Need-returns
+unfolding receiving sending
+returns c =
+    let start = c .before .before .before .before .before .before .before .before .before .before .before .before .before .before .before in
+    let rows : List ℕ = start .args .rows .now in
+    let u : Transmission = start .args .u in
+    let own = c .before .before .before .before .before .before .before .before .before .before .before .before .only .ensures in
+    let other = c .before .before .before .before .before .before .before .before .before .before .before .only2 .ensures in
+    noted rows (start .args .disturbers .now) u (start .args .b) (receivers c) (senders c) (start .args .columns .now) (c .before .before .before .before .before .before .spread .last .0) (c .before .before .spread2 .last .0)
+    (λ x h. rw (own, other, c .before .before .before .before .before .before .before .before .before .before .row-mask .ensures) (ends rows (start .args .disturbers .now) u (start .args .b) (rowMask rows (u .sender .0)) x) ∙ ap (λ (t : Bool). eqb (u .sender .0) x || eqb (u .receiver .0) x || t) (bit-row rows (λ i. omega (arith, c .before .before .before .before .before .before .before .before .before .before .before .before .before .before .shared-slice-known .given i)) (u .sender .0) x h))
+    (λ x h. rw (own, other) (ends rows (start .args .disturbers .now) u (start .args .b) (getD (start .args .disturbers .now) (u .receiver .0) 0) x))
+    (rw (one-bit (start .args .b) (omega (arith, start .pre .1))) at (c .before .before .before .before .before .before .spread .ensures))
+    (rw (one-bit (32 + start .args .b) (omega (arith, start .pre .1))) at (c .before .before .spread2 .ensures))
+
+pub note-spec : {M : Type 1} → statement M
+note-spec =
+    tie.close
+    (tie.spec
+    only-requires
+    only-requires-2
+    row-mask-requires
+    cast-sending
+    mul-sending
+    element-copy-out-sending
+    shl-spread
+    spread-requires
+    add-spread
+    shl-spread-2
+    spread-requires-2
+    same-length
+    returns)

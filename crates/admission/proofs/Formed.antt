@@ -2,7 +2,6 @@
 -- through their plans, at most a plan's length. Leans on the plans' Parts. Assumes nothing.
 use Prim.Native.Nat.{ℕ, zero, suc, _+_, _-_, _*_, _≤_, _<_}
 use mathlib.Core.Path.{_≡_}
-use mathlib.Core.Bool.{Bool, true, false}
 use mathlib.Core.List.{List}
 use native.Mathlib.Omega.{arith}
 use lib.ListN.{length, drop, length-drop}
@@ -12,36 +11,18 @@ use Rattle.trade.specs.First.{sumTo}
 use Rattle.trade.specs.Bytes.{part}
 use Rattle.trade.specs.Layout.{field, sections}
 use Rattle.trade.specs.Facts.{factsIn, factsOf, firstStep}
-use Rattle.trade.specs.Interference.{Matrix, one, worst, worstPath, interference}
-use Rattle.trade.proofs.Sums.{sum-le, sum-next, largest-below}
+use Rattle.trade.specs.Interference.{worstPath, interference}
+use Rattle.trade.proofs.Sums.{sum-le, sum-next}
 use Rattle.plans.specs.Network.{AllWithin}
 use Rattle.plans.specs.Line.{stepsIn, marksOf}
+use Rattle.plans.proofs.Line.{worst-at-most}
 use Rattle.plans.proofs.Parts.{within-plan, interference-plans}
-use Rattle.admission.specs.Formed.{Formed}
-
--- where plan i starts, and the part of the steps that holds it
-abbrev pub startOf : List ℕ → ℕ → ℕ
-startOf records i = sumTo (λ k. field records k 4) i
-
-abbrev pub planAt : List ℕ → List ℕ → ℕ → List ℕ
-planAt records steps i = part (stepBytes * startOf records i) (stepBytes * field records i 4) steps
+use Rattle.admission.specs.Formed.{Formed, startOf, planAt}
 
 -- a count is at most that of the steps of h
-one-most : (marked : Bool) → one marked ≤ 1
-unfolding one
-one-most true = omega arith
-one-most false = omega arith
-
-worst-most : (marks : Matrix) (rows i j k : ℕ) → worst marks rows i j k ≤ k
-unfolding worst
-worst-most marks rows i j zero = omega arith
-worst-most marks rows i j (suc k) =
-    largest-below (λ (c : ℕ). one (marks c j) + worst marks rows c (suc j) k) i (rows - i) (suc k)
-    (λ c l u. omega (arith, one-most (marks c j), worst-most marks rows c (suc j) k))
-
 pub interference-most : (records rows steps : List ℕ) (l h : ℕ) → interference (factsIn 0 0 rows records steps) l h ≤ field records h 4
 unfolding interference worstPath factsOf
-interference-most records rows steps l h = worst-most _ _ 0 0 (field records h 4)
+interference-most records rows steps l h = worst-at-most _ _ 0 0 (field records h 4)
 
 -- fewer flows are well formed too
 pub formed-less : (k m : ℕ) (rows records steps : List ℕ) → k ≤ m → Formed m rows records steps → Formed k rows records steps

@@ -3,6 +3,7 @@ pub mod Ceil
 pub mod Iteration
 pub mod Padded
 pub mod Formed
+pub mod Keeping
 pub mod Alike
 pub mod Outcome
 pub mod Opened

@@ -7,6 +7,7 @@ use Rattle.trade.specs.First.{sumTo}
 use Rattle.trade.specs.Layout.{field}
 use Rattle.trade.specs.Facts.{stepIn}
 use Rattle.plans.specs.Network.{Within}
+use Rattle.plans.specs.Plan.{planIn}
 
 -- the period, the deadline and the plan's length of record i are in their ranges
 pub record InRange (records : List ℕ) (i : ℕ) : Type 0 where
@@ -21,3 +22,10 @@ pub record Formed (k : ℕ) (rows records steps : List ℕ) : Type 0 where
   pub fields : (i : ℕ) → i < k → InRange records i
   pub planned : stepBytes * sumTo (λ i. field records i 4) k ≤ length steps
   pub within : (j : ℕ) → j < sumTo (λ i. field records i 4) k → Within rows (stepIn steps j)
+
+-- where plan i starts, and the part of the steps that holds it
+abbrev pub startOf : List ℕ → ℕ → ℕ
+startOf records i = sumTo (λ k. field records k 4) i
+
+abbrev pub planAt : List ℕ → List ℕ → ℕ → List ℕ
+planAt records steps i = planIn steps (startOf records i) (field records i 4)

@@ -2,23 +2,23 @@
 ghost use mathlib.Core.Path.{_≡_};
 ghost use Prim.Native.Nat.{ℕ, _+_, _*_, _≤_, _<_};
 ghost use lib.ListN.{length, getD};
-ghost use Rattle.trade.specs.Limits.{stepBytes, mostFlows, mostPeriod};
-ghost use Rattle.trade.specs.First.{listTo};
-ghost use Rattle.trade.specs.Bytes.{part, padded};
+ghost use Rattle.trade.specs.Limits.{mostNodes, mostPeriod};
 ghost use Rattle.trade.specs.Layout.{field};
 ghost use Rattle.trade.specs.Facts.{factsIn};
-ghost use Rattle.trade.specs.Interference.{interference};
 ghost use Rattle.trade.specs.Bound.{boundBy};
+ghost use Rattle.plans.specs.Columns.{Disturbers};
 ghost use Rattle.admission.specs.Formed.{Formed};
+ghost use Rattle.admission.specs.Kept.{Ready};
 ghost use Rattle.admission.specs.Bounds.{refusedBy, boundedBy};
+use crate::figures::figures_at;
+use crate::figures::keep;
+use crate::figures::plan_at;
 use crate::rising::smallest;
-use book::records::len_at;
 use book::records::record_at;
-use book::records::steps_before;
-use plans::interference::interference;
+use plans::columns::disturbers;
 use trade::Answer;
 use trade::Flow;
-use trade::Plan;
+use trade::Node;
 
 // An answer, and the bounds of the flows with zeros elsewhere; refused, all zeros.
 pub struct Checked {
@@ -36,50 +36,24 @@ pub(crate) fn refused(answer: Answer) -> Checked
     }
 }
 
-// The part of the steps that holds a plan of so many, behind those of the plans before it.
-fn plan_from(steps: &[u8], start: usize, len: usize) -> &[u8]
-    requires { ⌜ stepBytes * (start + len) ≤ length (now steps) ⌝ }
-    ensures { λ r. ⌜ now r ≡ part (stepBytes * start) (stepBytes * len) (now (steps .entry)) ⌝ }
-{
-    let from = Plan::STEP_BYTES * start;
-    let to = from + Plan::STEP_BYTES * len;
-    &steps[from..to]
-}
-
-// The interference of each flow above l on it, zeros elsewhere.
-fn figures_of(rows: &[u8], records: &[u8], steps: &[u8], l: usize) -> [u32; Flow::MOST]
-    requires { ⌜ Formed (l + 1) (now rows) (now records) (now steps) ⌝ }
-    ensures { λ r. ⌜ r ≡ padded mostFlows (listTo (interference (factsIn 0 0 (now (rows .entry)) (now (records .entry)) (now (steps .entry))) l) l) ⌝ }
-{
-    let plan = plan_from(steps, steps_before(records, l), len_at(records, l));
-    let mut figures = [0u32; Flow::MOST];
-    let mut start = 0;
-    let mut h = 0;
-    while h < l {
-        let len = len_at(records, h);
-        figures[h] = interference(rows, plan, plan_from(steps, start, len)) as u32;
-        start += len;
-        h += 1;
-    }
-    figures
-}
-
 // The bound of flow l, by the periods and the carry-in of the flows above it; its deadline + 1 where it has none.
 fn bound_at(
     rows: &[u8],
     records: &[u8],
     steps: &[u8],
+    columns: &[u64],
     l: usize,
     periods: &[u32; Flow::MOST],
     carries: &[u32; Flow::MOST],
 ) -> u32
     requires { ⌜ Formed (l + 1) (now rows) (now records) (now steps) ⌝ }
+    requires { ⌜ (0 < length (now columns) → Ready (now rows) (now records) (now steps) l (now columns)) ⌝ }
     requires { ⌜ ((h : ℕ) → h < l → getD (now periods) h 0 ≡ field (now records) h 2) ⌝ }
     requires { ⌜ ((h : ℕ) → h < l → getD (now carries) h 0 ≤ mostPeriod) ⌝ }
     ensures { λ r. ⌜ r ≡ boundBy (factsIn 0 0 (now (rows .entry)) (now (records .entry)) (now (steps .entry))) (λ h. getD (now (carries .entry)) h 0) l ⌝ }
 {
     let flow = record_at(records, l);
-    let figures = figures_of(rows, records, steps, l);
+    let figures = figures_at(rows, records, steps, columns, l);
     smallest(
         flow.len as u32,
         flow.deadline as u32,
@@ -90,9 +64,18 @@ fn bound_at(
     )
 }
 
-// The bounds of all flows, or code 9 at the first flow that has none. The carry-in of a flow is its deadline.
-pub fn bounds_of(flows: usize, rows: &[u8], records: &[u8], steps: &[u8]) -> Checked
-    requires { ⌜ Formed flows (now rows) (now records) (now steps) ⌝ }
+// The bounds of all flows, or code 9 at the first flow that has none. The carry-in of a flow is its deadline. The columns of each plan are
+// kept, blank ones being lent for them, or none where the figures are to be worked out without.
+fn bounds_with(
+    flows: usize,
+    rows: &[u8],
+    records: &[u8],
+    steps: &[u8],
+    disturbers: &[u64; Node::MOST],
+    columns: &mut [u64],
+) -> Checked
+    requires { ⌜ Formed flows (now rows) (now records) (now steps) × ((x : ℕ) → getD (now columns) x 0 ≡ 0) ⌝ }
+    requires { ⌜ (0 < length (now columns) → Disturbers (now rows) (now disturbers) × (mostNodes * flows ≤ length (now columns) + mostNodes)) ⌝ }
     ensures { λ r. ⌜ r ≡ boundedBy (factsIn 0 flows (now (rows .entry)) (now (records .entry)) (now (steps .entry))) ⌝ }
 {
     let mut bounds = [0u16; Flow::MOST];
@@ -101,17 +84,43 @@ pub fn bounds_of(flows: usize, rows: &[u8], records: &[u8], steps: &[u8]) -> Che
     let mut l = 0;
     while l < flows {
         let flow = record_at(records, l);
-        let bound = bound_at(rows, records, steps, l, &periods, &carries);
+        let bound = bound_at(rows, records, steps, columns, l, &periods, &carries);
         if (flow.deadline as u32) < bound {
             return refused(Answer::refused(9, l as u64));
         }
         bounds[l] = bound as u16;
         periods[l] = flow.period as u32;
         carries[l] = flow.deadline as u32;
+        keep(rows, disturbers, plan_at(records, steps, l), l, columns);
         l += 1;
     }
     Checked {
         answer: Answer::done(0),
         bounds,
     }
+}
+
+// Up to so many step bytes the columns cost more than they save.
+const FEW: usize = 48;
+
+// Up to so many plans are kept in the smaller room.
+const SOME: usize = 8;
+
+// The bounds of all flows, or code 9. The last plan disturbs no other, so its columns are not kept.
+pub fn bounds_of(flows: usize, rows: &[u8], records: &[u8], steps: &[u8]) -> Checked
+    requires { ⌜ Formed flows (now rows) (now records) (now steps) ⌝ }
+    ensures { λ r. ⌜ r ≡ boundedBy (factsIn 0 flows (now (rows .entry)) (now (records .entry)) (now (steps .entry))) ⌝ }
+{
+    if steps.len() <= FEW {
+        let unknown = [0u64; Node::MOST];
+        let mut none = [0u64; 1];
+        return bounds_with(flows, rows, records, steps, &unknown, &mut none[..0]);
+    }
+    let known = disturbers(rows);
+    if flows <= SOME + 1 {
+        let mut columns = [0u64; Node::MOST * SOME];
+        return bounds_with(flows, rows, records, steps, &known, &mut columns);
+    }
+    let mut columns = [0u64; Node::MOST * (Flow::MOST - 1)];
+    bounds_with(flows, rows, records, steps, &known, &mut columns)
 }

@@ -2,4 +2,5 @@
 pub mod acceptance;
 pub mod bounds;
 pub mod change;
+mod figures;
 pub mod rising;

@@ -20,8 +20,8 @@ use Rattle.admission.proofs.bounds.bound_at.Tie as tie
 record-at-requires : tie.Need-record-at-requires
 record-at-requires c κs = search needs
 
-figures-of-requires : tie.Need-figures-of-requires
-figures-of-requires c κs = search needs
+figures-at-requires : tie.Need-figures-at-requires
+figures-at-requires c κs = search needs
 
 cast-smallest : tie.Need-cast-smallest
 cast-smallest c = search needs
@@ -31,20 +31,20 @@ cast-smallest-2 c = search needs
 
 -- the figures of the flows above
 figure :
-    (c : tie.After-figures-of)
+    (c : tie.After-figures-at)
     → (h : ℕ)
-    → h < c .before .before .before .before .before .args .l
-    → getD (c .figures-of .result) h 0
-    ≡ interference (factsIn 0 0 (now (c .before .before .before .before .before .args .rows)) (now (c .before .before .before .before .before .args .records)) (now (c .before .before .before .before .before .args .steps))) (c .before .before .before .before .before .args .l) h
+    → h < c .before .before .before .before .before .before .args .l
+    → getD (c .figures-at .result) h 0
+    ≡ interference (factsIn 0 0 (now (c .before .before .before .before .before .before .args .rows)) (now (c .before .before .before .before .before .before .args .records)) (now (c .before .before .before .before .before .before .args .steps))) (c .before .before .before .before .before .before .args .l) h
 figure c h l =
-    let a = c .before .before .before .before .before .args in
-    rw (c .figures-of .ensures)
+    let a = c .before .before .before .before .before .before .args in
+    rw (c .figures-at .ensures)
     (filled-at mostFlows (interference (factsIn 0 0 (now (a .rows)) (now (a .records)) (now (a .steps))) (a .l)) (a .l) h l)
 
 smallest-requires : tie.Need-smallest-requires
 unfolding flowIn
 smallest-requires c κs =
-    let s = c .before .before .before .before .before .before .before .before in
+    let s = c .before .before .before .before .before .before .before .before .before in
     let a = s .args in
     let f = s .pre .0 in
     let own = f .fields (a .l) (omega arith) in
@@ -61,8 +61,8 @@ smallest-requires c κs =
               interference-most (now (a .records)) (now (a .rows)) (now (a .steps)) (a .l) h,
               f .fields h (omega arith) .len .1,
             );
-        period = λ h l. rw (s .pre .1 .0 h l) (f .fields h (omega arith) .period);
-        carry = λ h l. s .pre .1 .1 h l;
+        period = λ h l. rw (s .pre .1 .1 .0 h l) (f .fields h (omega arith) .period);
+        carry = λ h l. s .pre .1 .1 .1 h l;
       },
       omega (arith, len, own .len .0),
       omega (arith, len, own .len .1),
@@ -72,16 +72,16 @@ smallest-requires c κs =
 returns : tie.Need-returns
 unfolding flowIn factsOf
 returns c =
-    let s = c .before .before .before .before .before .before .before .before .before in
+    let s = c .before .before .before .before .before .before .before .before .before .before in
     let a = s .args in
     let f : Facts = factsIn 0 0 (now (a .rows)) (now (a .records)) (now (a .steps)) in
     let w = c .before .before .before .before .before .record-at .ensures in
     let len : ℕ = c .before .before .before .before .before .record-at .result .len in
-    let figures : List ℕ = c .before .before .before .before .figures-of .result in
+    let figures : List ℕ = c .before .before .before .before .figures-at .result in
     c .smallest .ensures
     ∙ ap₂ (λ (own last : ℕ). smallestIn (neededIn own (a .l) figures (now (a .periods)) (now (a .carries))) own last)
     (ap (λ (w : Flow). w .len) w) (ap (λ (w : Flow). w .deadline) w)
-    ∙ bound-in f (λ h. getD (now (a .carries)) h 0) (a .l) figures (now (a .periods)) (now (a .carries)) (figure (c .before .before .before .before)) (s .pre .1 .0)
+    ∙ bound-in f (λ h. getD (now (a .carries)) h 0) (a .l) figures (now (a .periods)) (now (a .carries)) (figure (c .before .before .before .before)) (s .pre .1 .1 .0)
     (λ h l. refl)
 
 pub bound-at-spec : {M : Type 1} → statement M
@@ -89,7 +89,7 @@ bound-at-spec =
     tie.close
     (tie.spec
     record-at-requires
-    figures-of-requires
+    figures-at-requires
     cast-smallest
     cast-smallest-2
     smallest-requires

@@ -1,208 +1,75 @@
--- `admission::bounds::bounds_of` meets its contract: each flow passed has its bound, which stands in the array. Assumes nothing.
-use Prim.Native.Nat.{ℕ, _+_, _-_, _≤_, _<_}
-use mathlib.Core.Path.{_≡_, sym, _∙_, ap, ap₂}
-use mathlib.Core.Bool.{false}
-use mathlib.Core.List.{List}
-use borrow.Author.Count.{below-more}
-use denote.Ref.{now}
-use lib.ListN.{getD}
+-- `admission::bounds::bounds_of` meets its contract, whatever room it lends for columns. Assumes nothing.
+use mathlib.Core.Path.{refl}
 use native.Mathlib.Omega.{arith}
-use Rattle.trade.specs.Limits.{mostFlows, mostPeriod}
-use Rattle.trade.specs.Layout.{field}
-use Rattle.trade.specs.Facts.{Facts, factsIn, factsOf, flowIn}
-use Rattle.trade.specs.Bound.{bound, boundless}
-use Rattle.trade.specs.Calls.{boundsOf}
-use Rattle.trade.specs.declared.answer.Answer.{Answer}
-use Rattle.trade.specs.declared.flow.Flow.{Flow}
-use Rattle.admission.specs.Bounds.{refusedBy}
-use Rattle.admission.proofs.Alike.{alike-counts, boundBy-alike}
-use Rattle.admission.proofs.Formed.{formed-less}
-use Rattle.admission.proofs.Outcome.{boundless-over, boundless-in, bounded-refused, bounded-done}
-use Rattle.admission.proofs.Padded.{filled, filled-none, filled-more, filled-at}
+use Rattle.plans.proofs.Line.{zeros}
 use Rattle.admission.proofs.bounds.bounds_of.Statement.{statement}
 use Rattle.admission.proofs.bounds.bounds_of.Tie as tie
+use Rattle.admission.proofs.bounds.bounds_of.Reads as reads
+use Rattle.admission.proofs.bounds.bounds_of.Lts as lts
+use Rattle.admission.proofs.bounds.bounds_with.Reads as bounds-with-reads
+use Rattle.plans.proofs.columns.disturbers.Reads as disturbers-reads
 
-abbrev Inv-loop : tie.InvT-loop
-Inv-loop flows rows records steps bounds₀ periods₀ carries₀ l₀ bounds periods carries l =
-    (l ≤ flows)
-    × (bounds ≡ filled mostFlows (bound (factsIn 0 flows rows records steps)) l)
-    × (periods ≡ filled mostFlows (λ h. field records h 2) l)
-    × (carries ≡ filled mostFlows (λ h. field records h 3) l)
-    × ((k : ℕ) → k < l → boundless (factsIn 0 flows rows records steps) k ≡ false)
+-- src/bounds.rt:117:67
+array-borrow-prefix-none : tie.Need-array-borrow-prefix-none
+array-borrow-prefix-none c = omega arith
 
-abbrev μ-loop : tie.MeasureT-loop
-μ-loop flows rows records steps bounds₀ periods₀ carries₀ l₀ bounds periods carries l = flows - l
+-- src/bounds.rt:117:67
+slice-aggregate-bounds-with : tie.Need-slice-aggregate-bounds-with
+slice-aggregate-bounds-with c = refl
 
-loop-holds : tie.Need-loop-holds Inv-loop μ-loop
-loop-holds c =
-    let a = c .before .before .before .args in
-    let f : Facts = factsIn 0 (a .flows) (now (a .rows)) (now (a .records)) (now (a .steps)) in (
-      omega arith,
-      sym (filled-none mostFlows (bound f)),
-      sym (filled-none mostFlows (λ (h : ℕ). field (now (a .records)) h 2)),
-      sym (filled-none mostFlows (λ (h : ℕ). field (now (a .records)) h 3)),
-      λ k h. absurd (omega arith),
-    )
+-- src/bounds.rt:117:9
+bounds-with-requires : tie.Need-bounds-with-requires
+bounds-with-requires c κs = ((c .before .before .before .before .before .before .pre, λ x. refl), λ some. absurd (omega arith))
 
-record-at-requires : tie.Need-record-at-requires Inv-loop μ-loop
-record-at-requires c κs = omega (arith, c .before .before .before .before .before .pre .recorded)
+-- src/bounds.rt:117:9
+returns : tie.Need-returns
+returns c = c .before .bounds-with .ensures
 
-bound-at-requires : tie.Need-bound-at-requires Inv-loop μ-loop
-bound-at-requires c κs =
-    let s = c .before .before .before .before .before .before .before .before in
-    let a = s .args in
-    let loop = c .before .before .before .before .loop in
-    let records : List ℕ = now (a .records) in (
-      formed-less (loop .l + 1) (a .flows) (now (a .rows)) records (now (a .steps)) (omega arith) (s .pre),
-      (
-        λ h b. rw (loop .inv .2) (filled-at mostFlows (λ (k : ℕ). field records k 2) (loop .l) h b),
-        λ h b.
-            rw (loop .inv .3, filled-at mostFlows (λ (k : ℕ). field records k 3) (loop .l) h b)
-            (omega (arith, s .pre .fields h (omega arith) .deadline, s .pre .fields h (omega arith) .period .1)),
-      ),
-    )
+-- src/bounds.rt:119:17
+disturbers-requires : tie.Need-disturbers-requires
+disturbers-requires c κs = tt
 
--- what the record says, and that the flow's deadline and period are in range
-fields :
-    (c : tie.After-record-at Inv-loop μ-loop)
-    → (c .record-at .result .period ≡ field (now (c .before .before .before .before .before .before .args .records)) (c .before .before .loop .l) 2)
-    × (c .record-at .result .deadline ≡ field (now (c .before .before .before .before .before .before .args .records)) (c .before .before .loop .l) 3)
-    × (c .record-at .result .period ≤ mostPeriod)
-    × (c .record-at .result .deadline ≤ mostPeriod)
-unfolding flowIn
-fields c =
-    let period = ap (λ (w : Flow). w .period) (c .record-at .ensures) in
-    let deadline = ap (λ (w : Flow). w .deadline) (c .record-at .ensures) in
-    let range = c .before .before .before .before .before .before .pre .fields (c .before .before .loop .l) (omega arith) in
-    (period, deadline, omega (arith, period, range .period .1), omega (arith, deadline, range .deadline, range .period .1))
+-- src/bounds.rt:120:17
+add-if2 : tie.Need-add-if2
+add-if2 c = omega arith
 
--- the bound that was found is the flow's
-bounded :
-    (c : tie.After-bound-at Inv-loop μ-loop)
-    → c .bound-at .result
-    ≡ bound (factsIn 0 (c .before .before .before .before .before .before .before .before .before .args .flows) (now (c .before .before .before .before .before .before .before .before .before .args .rows)) (now (c .before .before .before .before .before .before .before .before .before .args .records)) (now (c .before .before .before .before .before .before .before .before .before .args .steps))) (c .before .before .before .before .before .loop .l)
-unfolding bound factsOf
-bounded c =
-    let a = c .before .before .before .before .before .before .before .before .before .args in
-    let loop = c .before .before .before .before .before .loop in
-    let deadline : ℕ → ℕ = λ h. field (now (a .records)) h 3 in
-    c .bound-at .ensures
-    ∙ boundBy-alike (loop .l + 1) (factsIn 0 0 (now (a .rows)) (now (a .records)) (now (a .steps)))
-    (factsIn 0 (a .flows) (now (a .rows)) (now (a .records)) (now (a .steps)))
-    (alike-counts (loop .l + 1) 0 0 0 (a .flows) (now (a .rows)) (now (a .records)) (now (a .steps)))
-    (λ h. getD (loop .carries) h 0) deadline (loop .l) (omega arith)
-    (λ h b. rw (loop .inv .3) (filled-at mostFlows deadline (loop .l) h b))
+-- src/bounds.rt:122:65
+slice-aggregate-bounds-with-2 : tie.Need-slice-aggregate-bounds-with-2
+slice-aggregate-bounds-with-2 c = refl
 
-cast-if1 : tie.Need-cast-if1 Inv-loop μ-loop
-cast-if1 c = omega (arith, fields (c .before .before .before .before))
+-- src/bounds.rt:122:9
+bounds-with-requires-2 : tie.Need-bounds-with-requires-2
+bounds-with-requires-2 c κs = ((c .before .before .before .before .before .before .before .before .pre, zeros 512), λ some. (c .before .before .before .disturbers .ensures, omega arith))
 
-refused-requires : tie.Need-refused-requires Inv-loop μ-loop
-refused-requires c κs = tt
+-- src/bounds.rt:122:9
+returns-2 : tie.Need-returns-2
+returns-2 c = c .before .bounds-with2 .ensures
 
-refused-requires-2 : tie.Need-refused-requires-2 Inv-loop μ-loop
-refused-requires-2 c κs = tt
+-- src/bounds.rt:125:54
+slice-aggregate-bounds-with-3 : tie.Need-slice-aggregate-bounds-with-3
+slice-aggregate-bounds-with-3 c = refl
 
-returns : tie.Need-returns Inv-loop μ-loop
-unfolding factsOf
-returns c =
-    let a = c .before .before .before .before .before .before .before .before .before .before .before .before .before .args in
-    let loop = c .before .before .before .before .before .before .before .before .before .loop in
-    let f : Facts = factsIn 0 (a .flows) (now (a .rows)) (now (a .records)) (now (a .steps)) in
-    let over : field (now (a .records)) (loop .l) 3 < bound f (loop .l) =
-    rw (← fields (c .before .before .before .before .before .before .before) .1, ← bounded (c .before .before .before .before)) (c .before .before .if1 .taken) in
-    c .refused2 .ensures
-    ∙ ap refusedBy (c .before .refused .ensures)
-    ∙ sym (bounded-refused f (loop .l) (omega arith) (loop .inv .4) (boundless-over f (loop .l) over))
+-- src/bounds.rt:125:5
+bounds-with-requires-3 : tie.Need-bounds-with-requires-3
+bounds-with-requires-3 c κs = ((c .before .before .before .before .before .before .before .before .pre, zeros 1984), λ some. (c .before .before .before .disturbers .ensures, omega (arith, c .before .before .before .before .before .before .before .before .pre .most)))
 
-cast-bounds : tie.Need-cast-bounds Inv-loop μ-loop
-cast-bounds c = omega (arith, fields (c .before .before .before .before .before))
-
-mul-bounds : tie.Need-mul-bounds Inv-loop μ-loop
-mul-bounds c = omega (arith, c .before .before .before .before .before .before .before .before .before .before .before .pre .most)
-
-array-write-bounds : tie.Need-array-write-bounds Inv-loop μ-loop
-array-write-bounds c = omega (arith, c .before .before .before .before .before .before .before .before .before .before .before .pre .most)
-
-cast-periods : tie.Need-cast-periods Inv-loop μ-loop
-cast-periods c = omega (arith, fields (c .before .before .before .before .before .before))
-
-mul-periods : tie.Need-mul-periods Inv-loop μ-loop
-mul-periods c = omega (arith, c .before .before .before .before .before .before .before .before .before .before .before .before .pre .most)
-
-array-write-periods : tie.Need-array-write-periods Inv-loop μ-loop
-array-write-periods c = omega (arith, c .before .before .before .before .before .before .before .before .before .before .before .before .pre .most)
-
-cast-carries : tie.Need-cast-carries Inv-loop μ-loop
-cast-carries c = omega (arith, fields (c .before .before .before .before .before .before .before))
-
-mul-carries : tie.Need-mul-carries Inv-loop μ-loop
-mul-carries c = omega (arith, c .before .before .before .before .before .before .before .before .before .before .before .before .before .pre .most)
-
-array-write-carries : tie.Need-array-write-carries Inv-loop μ-loop
-array-write-carries c = omega (arith, c .before .before .before .before .before .before .before .before .before .before .before .before .before .pre .most)
-
-add-l : tie.Need-add-l Inv-loop μ-loop
-add-l c = omega (arith, c .before .before .before .before .before .before .before .before .before .before .before .before .before .pre .most)
-
-loop-less : tie.Need-loop-less Inv-loop μ-loop
-loop-less c = omega arith
-
-loop-again : tie.Need-loop-again Inv-loop μ-loop
-unfolding factsOf
-loop-again c =
-    let s = c .before .before .before .before .before .before .before .before .before .before .before .before .before in
-    let a = s .args in
-    let loop = c .before .before .before .before .before .before .before .before .before .loop in
-    let f : Facts = factsIn 0 (a .flows) (now (a .rows)) (now (a .records)) (now (a .steps)) in
-    let said = fields (c .before .before .before .before .before .before .before) in
-    let within : bound f (loop .l) ≤ field (now (a .records)) (loop .l) 3 =
-    rw (← said .1, ← bounded (c .before .before .before .before)) (c .before .before .if1 .left) in
-    let room : loop .l < mostFlows = omega (arith, s .pre .most) in (
-      omega arith,
-      rw (loop .inv .1, bounded (c .before .before .before .before)) (filled-more mostFlows (bound f) (loop .l) room),
-      rw (loop .inv .2, said .0) (filled-more mostFlows (λ (h : ℕ). field (now (a .records)) h 2) (loop .l) room),
-      rw (loop .inv .3, said .1) (filled-more mostFlows (λ (h : ℕ). field (now (a .records)) h 3) (loop .l) room),
-      below-more _ _ (loop .inv .4) (boundless-in f (loop .l) within),
-    )
-
-done-requires : tie.Need-done-requires Inv-loop μ-loop
-done-requires c κs = tt
-
-returns-2 : tie.Need-returns-2 Inv-loop μ-loop
-unfolding factsOf boundsOf
-returns-2 c =
-    let a = c .before .before .before .before .before .before .args in
-    let loop = c .before .before .loop in
-    let f : Facts = factsIn 0 (a .flows) (now (a .rows)) (now (a .records)) (now (a .steps)) in
-    let e : loop .l ≡ a .flows = omega arith in
-    ap₂ (λ (answer : Answer) (bounds : List ℕ). record { answer = answer; bounds = bounds }) (c .done .ensures)
-    (loop .inv .1 ∙ ap (filled mostFlows (bound f)) e)
-    ∙ sym (bounded-done f (λ k h. loop .inv .4 k (omega arith)))
+-- src/bounds.rt:110:1
+returns-3 : tie.Need-returns-3
+returns-3 c = c .before .bounds-with3 .ensures
 
 pub bounds-of-spec : {M : Type 1} → statement M
 bounds-of-spec =
     tie.close
     (tie.spec
-    Inv-loop
-    μ-loop
-    loop-holds
-    record-at-requires
-    bound-at-requires
-    cast-if1
-    refused-requires
-    refused-requires-2
+    array-borrow-prefix-none
+    slice-aggregate-bounds-with
+    bounds-with-requires
     returns
-    cast-bounds
-    mul-bounds
-    array-write-bounds
-    cast-periods
-    mul-periods
-    array-write-periods
-    cast-carries
-    mul-carries
-    array-write-carries
-    add-l
-    loop-less
-    loop-again
-    done-requires
-    returns-2)
+    disturbers-requires
+    add-if2
+    slice-aggregate-bounds-with-2
+    bounds-with-requires-2
+    returns-2
+    slice-aggregate-bounds-with-3
+    bounds-with-requires-3
+    returns-3)

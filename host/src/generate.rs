@@ -145,6 +145,23 @@ pub fn any(dice: &mut Dice, shape: &Shape) -> Draft {
     draft
 }
 
+/// A book for a round of many, and its shape. Small books come first, so that a difference shows on a small one if it can.
+pub fn of_round(dice: &mut Dice, round: u64) -> (&'static Shape, Draft) {
+    let shape = match round % 64 {
+        63 => &FULL,
+        15 | 47 => &WIDE,
+        31 => &CROWDED,
+        r if r % 4 == 3 => &MIDDLE,
+        _ => &SMALL,
+    };
+    let draft = match dice.below(6) {
+        0 | 1 => any(dice, shape),
+        2 if round % 64 == 63 => regular(dice.roll(), MAX_NODES, MAX_FLOWS, MAX_LEN),
+        _ => accepted(dice, shape),
+    };
+    (shape, draft)
+}
+
 /// The accepted book with 64 nodes, 32 flows and `len` steps each, or any smaller one of the same make: periods
 /// so long that every bound is met, whatever the plans.
 pub fn regular(seed: u64, nodes: usize, flows: usize, len: usize) -> Draft {

@@ -21,4 +21,5 @@ pub mod plain_cases;
 pub mod planner;
 #[cfg(proved)]
 mod proved;
+pub mod tally;
 pub mod watch;

@@ -62,6 +62,9 @@ fn rows(dice: &mut Dice, nodes: usize) -> Vec<u64> {
 
 /// A walk from node to node, some of its steps repeated; mostly to near nodes, so that many can go at once.
 fn plan(dice: &mut Dice, nodes: usize, len: usize) -> Vec<(u8, u8)> {
+    if nodes == 1 {
+        return vec![(0, 0); len];
+    }
     let mut at = dice.below(nodes);
     let mut plan = Vec::new();
     while plan.len() < len {
@@ -97,6 +100,13 @@ fn bare(dice: &mut Dice, shape: &Shape, nodes: usize, flows: &[DraftFlow]) -> Dr
         deadline: shape.period as u16,
         plan: plan(dice, nodes, len),
     }
+}
+
+/// A flow that fits the nodes and the ids of a draft, with the longest period. On one node its steps go nowhere.
+pub fn newcomer(dice: &mut Dice, draft: &Draft) -> DraftFlow {
+    let longest = dice.pick(&[1, 3, MAX_LEN]);
+    let shape = Shape { steps: (1, longest), ..WIDE };
+    bare(dice, &shape, draft.nodes(), &draft.flows)
 }
 
 /// A draft with its rows, and how many flows it is to get. One node can send to nobody.

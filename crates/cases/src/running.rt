@@ -27,7 +27,7 @@ fn print_bounds(bounds: &[u16; Flow::MOST]) {
     print(b"\n");
 }
 
-fn check_case(name: &[u8], book: &[u8]) {
+pub fn check_case(name: &[u8], book: &[u8]) {
     let checked = check(book);
     let bounds = checked.bounds;
     say(name, checked.answer);

@@ -5,7 +5,7 @@ use crate::answer::*;
 use crate::damage;
 use crate::dice::Dice;
 use crate::draft::{Draft, DraftFlow};
-use crate::generate::newcomer;
+use crate::generate::{newcomer, regular};
 use crate::limits::*;
 use crate::plain::book::Record;
 use crate::plain::table::{Table, PLAN_BYTES};
@@ -34,6 +34,7 @@ pub fn around(dice: &mut Dice, draft: &Draft) -> Vec<Asked> {
         let flow = newcomer(dice, draft);
         requests.extend(places_to_add(dice, &table, draft.flows.len(), &flow));
     }
+    requests.extend(crowded(dice));
     requests.extend(fields_to_add(dice, draft));
     requests.extend(steps_to_add(dice, draft));
     requests.extend(tight(dice, draft));
@@ -76,6 +77,18 @@ fn removes(dice: &mut Dice, table: &Table, flows: usize) -> Vec<Request> {
 fn places_to_add(dice: &mut Dice, table: &Table, flows: usize, flow: &DraftFlow) -> Vec<Request> {
     let request = |place| add(table, place, flow.record(), places(&flow.plan));
     some_places(dice, flows).into_iter().map(request).collect()
+}
+
+/// Tables with the most flows and with one less.
+fn crowded(dice: &mut Dice) -> Vec<Request> {
+    let mut requests = Vec::new();
+    for flows in [MAX_FLOWS - 1, MAX_FLOWS] {
+        let draft = regular(dice.roll(), 8, flows, 1);
+        let (table, flow) = (littered(dice, &draft), newcomer(dice, &draft));
+        requests.extend(places_to_add(dice, &table, flows, &flow));
+        requests.extend(removes(dice, &table, flows));
+    }
+    requests
 }
 
 fn add(table: &Table, place: u64, record: Record, plan: [u8; PLAN_BYTES]) -> Request {

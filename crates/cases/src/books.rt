@@ -80,7 +80,8 @@ fn put_record(record: &mut [u8], id: u16) {
 
 // Records with ids 1 to m, and their steps.
 fn put_flows(room: &mut [u8], records: usize, steps: usize, m: usize)
-    requires { ⌜ (m ≤ mostFlows + 1) × (records + recordBytes * m ≤ length (now room)) × (steps + stepBytes * m ≤ length (now room)) ⌝ }
+    requires { ⌜ m ≤ mostFlows + 1 ⌝ }
+    requires { ⌜ (records + recordBytes * m ≤ length (now room)) × (steps + stepBytes * m ≤ length (now room)) ⌝ }
 {
     let mut i = 0;
     while i < m {

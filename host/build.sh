@@ -20,7 +20,7 @@ else
 fi
 
 $rustc $flags $link --crate-type rlib --crate-name slot_host -o "$out/libslot_host.rlib" "$here/src/lib.rs"
-for program in cases compare monitor bench; do
+for program in cases compare monitor bench requests; do
     set -- --extern "slot_host=$out/libslot_host.rlib" -o "$out/$program" "$here/src/bin/$program.rs"
     [ -z "$link" ] || set -- -C "link-arg=$archive" "$@"
     $rustc $flags "$@"

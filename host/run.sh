@@ -6,4 +6,4 @@ here=$(cd "$(dirname "$0")" && pwd)
 . "$here/machine.sh"
 program=${OUT:-$here/../target/host}/$1
 shift
-SLOT_EMULATOR=$emulator exec $emulator "$program" "$@"
+SLOT_EMULATOR=$emulator SLOT_PROGRAM=$here/../tools/program.sh exec $emulator "$program" "$@"

@@ -1,11 +1,5 @@
 #!/bin/sh
-# Lists a book: tools/list.sh BOOK. Runs the proved program (`rt check slotlist` builds it) as rt does: under the toolchain's loader and
-# C library and, on a machine other than x86-64, its emulator.
+# Lists a book by the proved program: tools/list.sh BOOK.
 set -eu
-here=$(cd "$(dirname "$0")/.." && pwd)
 [ $# -eq 1 ] || { echo "usage: tools/list.sh BOOK" >&2; exit 2; }
-rt=$(readlink -f "$(command -v rt)")
-tools=${RATTLE_HOME:-$(dirname "$rt")/..}/on/$(uname -m)/toolchain
-emulator=$tools/bin/qemu-x86_64
-[ -x "$emulator" ] || emulator=
-exec $emulator "$tools/lib/ld-linux-x86-64.so.2" --library-path "$tools/lib" "$here/target/bin/slotlist" <"$1"
+exec "$(dirname "$0")/program.sh" slotlist <"$1"

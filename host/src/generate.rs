@@ -62,6 +62,9 @@ fn rows(dice: &mut Dice, nodes: usize) -> Vec<u64> {
 
 /// A walk from node to node, some of its steps repeated; mostly to near nodes, so that many can go at once.
 fn plan(dice: &mut Dice, nodes: usize, len: usize) -> Vec<(u8, u8)> {
+    if nodes == 1 {
+        return vec![(0, 0); len];
+    }
     let mut at = dice.below(nodes);
     let mut plan = Vec::new();
     while plan.len() < len {
@@ -97,6 +100,13 @@ fn bare(dice: &mut Dice, shape: &Shape, nodes: usize, flows: &[DraftFlow]) -> Dr
         deadline: shape.period as u16,
         plan: plan(dice, nodes, len),
     }
+}
+
+/// A flow that fits the nodes and the ids of a draft, with the longest period. On one node its steps go nowhere.
+pub fn newcomer(dice: &mut Dice, draft: &Draft) -> DraftFlow {
+    let longest = dice.pick(&[1, 3, MAX_LEN]);
+    let shape = Shape { steps: (1, longest), ..WIDE };
+    bare(dice, &shape, draft.nodes(), &draft.flows)
 }
 
 /// A draft with its rows, and how many flows it is to get. One node can send to nobody.
@@ -143,6 +153,23 @@ pub fn any(dice: &mut Dice, shape: &Shape) -> Draft {
         draft.flows.push(flow);
     }
     draft
+}
+
+/// A book for a round of many, and its shape. Small books come first, so that a difference shows on a small one if it can.
+pub fn of_round(dice: &mut Dice, round: u64) -> (&'static Shape, Draft) {
+    let shape = match round % 64 {
+        63 => &FULL,
+        15 | 47 => &WIDE,
+        31 => &CROWDED,
+        r if r % 4 == 3 => &MIDDLE,
+        _ => &SMALL,
+    };
+    let draft = match dice.below(6) {
+        0 | 1 => any(dice, shape),
+        2 if round % 64 == 63 => regular(dice.roll(), MAX_NODES, MAX_FLOWS, MAX_LEN),
+        _ => accepted(dice, shape),
+    };
+    (shape, draft)
 }
 
 /// The accepted book with 64 nodes, 32 flows and `len` steps each, or any smaller one of the same make: periods

@@ -7,6 +7,7 @@
 pub mod aimed;
 pub mod answer;
 pub mod areas;
+pub mod asked;
 pub mod call;
 pub mod cases;
 pub mod damage;
@@ -19,6 +20,10 @@ pub mod options;
 pub mod plain;
 pub mod plain_cases;
 pub mod planner;
+pub mod program;
 #[cfg(proved)]
 mod proved;
+pub mod request;
+pub mod tables;
+pub mod tally;
 pub mod watch;

@@ -3,13 +3,14 @@
 use crate::answer::*;
 use crate::cases::same;
 use crate::dice::Dice;
-use crate::draft::{book_a, book_b, Draft};
+use crate::draft::{book_a, book_b};
 use crate::generate::{accepted, any, regular, MIDDLE, SMALL};
 use crate::limits::*;
 use crate::plain::book::Record;
 use crate::plain::rules::{by_choices, by_recursion, Matrix};
 use crate::plain::table::{add, read, remove, write, Table, PLAN_BYTES};
 use crate::plain::{run, Refusal};
+use crate::tables::{littered, places};
 
 pub type PlainCase = (&'static str, fn() -> Result<(), String>);
 
@@ -65,16 +66,6 @@ fn both_ways() -> Result<(), String> {
     Ok(())
 }
 
-/// The table of a valid book, with something in every unused place.
-fn littered(dice: &mut Dice, draft: &Draft) -> Table {
-    let (_, mut table) = read(&draft.bytes());
-    let litter = |dice: &mut Dice, unused: &mut [u8]| unused.iter_mut().for_each(|byte| *byte = dice.byte());
-    litter(dice, &mut table.rows[ROW_BYTES * draft.nodes()..]);
-    litter(dice, &mut table.records[RECORD_BYTES * draft.flows.len()..]);
-    litter(dice, &mut table.steps[STEP_BYTES * draft.steps()..]);
-    table
-}
-
 fn round_trip() -> Result<(), String> {
     let dice = &mut Dice::new(10);
     for round in 0..300 {
@@ -121,15 +112,6 @@ fn faulty_tables(good: &Table) -> Vec<(u32, Table)> {
         (packed(BAD_RECORD, 1), changed(|table| table.records[RECORD_BYTES + 1] = 7)),
         (packed(BAD_STEP, 4), changed(|table| table.steps[4 * STEP_BYTES] = 1)),
     ]
-}
-
-/// The step places of a plan, with something in those past its end.
-fn places(steps: &[(u8, u8)]) -> [u8; PLAN_BYTES] {
-    let mut plan = [0xEE; PLAN_BYTES];
-    for (place, &(sender, receiver)) in plan.chunks_mut(STEP_BYTES).zip(steps) {
-        place.copy_from_slice(&[sender, receiver]);
-    }
-    plan
 }
 
 fn newcomer(id: u16, steps: &[(u8, u8)]) -> (Record, [u8; PLAN_BYTES]) {

@@ -1,7 +1,10 @@
 // Adding and removing: each place of the table, codes 14 and 15, and what the new table refuses.
 use crate::books::A;
+use crate::books::LONGER;
+use crate::books::ROOM;
 use crate::books::put;
 use crate::books::put_book;
+use crate::running::check_case;
 use crate::said::say;
 use crate::writing::agreeing;
 use admission::change::add;
@@ -11,6 +14,11 @@ use book::table::read;
 use book::written::write;
 use trade::Answer;
 use trade::Flow;
+use trade::Node;
+use trade::Plan;
+
+// An id that no book here has.
+const FRESH: u16 = 1_000;
 
 // A flow of one step.
 fn newcomer(id: u16) -> Flow {
@@ -23,25 +31,19 @@ fn newcomer(id: u16) -> Flow {
     }
 }
 
-// The step places of a plan of up to six steps, the same each time.
-fn plan_of(sender: u8, receiver: u8) -> [u8; 64] {
-    let mut plan = [0u8; 64];
-    put(&mut plan, 0, sender);
-    put(&mut plan, 1, receiver);
-    put(&mut plan, 2, sender);
-    put(&mut plan, 3, receiver);
-    put(&mut plan, 4, sender);
-    put(&mut plan, 5, receiver);
-    put(&mut plan, 6, sender);
-    put(&mut plan, 7, receiver);
-    put(&mut plan, 8, sender);
-    put(&mut plan, 9, receiver);
-    put(&mut plan, 10, sender);
-    put(&mut plan, 11, receiver);
+// The step places of a plan, all the same.
+fn plan_of(sender: u8, receiver: u8) -> [u8; Plan::MOST * Plan::STEP_BYTES] {
+    let mut plan = [0u8; Plan::MOST * Plan::STEP_BYTES];
+    let mut i = 0;
+    while i < Plan::MOST {
+        put(&mut plan, Plan::STEP_BYTES * i, sender);
+        put(&mut plan, Plan::STEP_BYTES * i + 1, receiver);
+        i += 1;
+    }
     plan
 }
 
-fn add_case(name: &[u8], place: usize, flow: Flow, plan: [u8; 64]) {
+fn add_case(name: &[u8], place: usize, flow: Flow, plan: [u8; Plan::MOST * Plan::STEP_BYTES]) {
     let got = read(&A);
     let changed = add(got.table, place, flow, plan);
     say(name, changed.answer);
@@ -50,13 +52,13 @@ fn add_case(name: &[u8], place: usize, flow: Flow, plan: [u8; 64]) {
 // A flow put into A and taken out again: the length of the book with it, and the bytes that agree with A after it.
 fn add_and_remove(name: &[u8], place: usize) {
     let got = read(&A);
-    let added = add(got.table, place, newcomer(5), plan_of(0, 1));
+    let added = add(got.table, place, newcomer(FRESH), plan_of(0, 1));
     say(name, added.answer);
-    let mut longer = [0u8; 128];
+    let mut longer = [0u8; LONGER];
     say(b"and write it", write(added.table, &mut longer));
     let removed = remove(added.table, place);
     say(b"and remove it", removed.answer);
-    let mut buffer = [0u8; 128];
+    let mut buffer = [0u8; LONGER];
     say(b"and write the rest", write(removed.table, &mut buffer));
     say(b"bytes that agree", Answer::done(agreeing(&A, &buffer)));
 }
@@ -65,23 +67,40 @@ fn remove_case(name: &[u8], place: usize) {
     let got = read(&A);
     let removed = remove(got.table, place);
     say(name, removed.answer);
-    let mut buffer = [0u8; 128];
+    let mut buffer = [0u8; LONGER];
     say(b"and write the rest", write(removed.table, &mut buffer));
 }
 
-// The 33rd flow.
+// The longest plan, behind the flows of A; the book with it is checked.
+fn add_longest() {
+    let got = read(&A);
+    let mut f = newcomer(FRESH);
+    f.len = Plan::MOST as u16;
+    let added = add(got.table, 2, f, plan_of(0, 1));
+    say(b"add to A, L most", added.answer);
+    let mut book = [0u8; LONGER];
+    say(b"and write it", write(added.table, &mut book));
+    check_case(b"and check it", &book);
+}
+
+// One flow more than there may be.
 fn add_to_many() {
-    let mut buffer = [0u8; 906];
-    put_book(&mut buffer, 64, 32);
-    let got = read(&buffer);
+    let mut room = [0u8; ROOM];
+    put_book(&mut room, Node::MOST, Flow::MOST);
+    let got = read(&room);
     say(b"read n most, m most", got.answer);
-    let full = add(got.table, 0, newcomer(60000), plan_of(0, 1));
-    say(b"add a 33rd flow", full.answer);
-    let nowhere = add(got.table, 33, newcomer(60000), plan_of(0, 1));
-    say(b"add a 33rd flow past the end", nowhere.answer);
-    let removed = remove(got.table, 31);
-    say(b"remove the 32nd flow", removed.answer);
-    let again = add(removed.table, 31, newcomer(60000), plan_of(0, 1));
+    let full = add(got.table, 0, newcomer(FRESH), plan_of(0, 1));
+    say(b"add to m most", full.answer);
+    let nowhere = add(got.table, Flow::MOST + 1, newcomer(FRESH), plan_of(0, 1));
+    say(b"add to m most, past the end", nowhere.answer);
+    let removed = remove(got.table, Flow::MOST - 1);
+    say(b"remove the last flow", removed.answer);
+    let again = add(
+        removed.table,
+        Flow::MOST - 1,
+        newcomer(FRESH),
+        plan_of(0, 1),
+    );
     say(b"add it again", again.answer);
 }
 
@@ -96,7 +115,7 @@ fn change_counts(name: &[u8], nodes: u8, flows: u8) {
 
 fn print_changes(name: &[u8], t: Table) {
     say(name, Answer::done(0));
-    let added = add(t, 0, newcomer(5), plan_of(0, 1));
+    let added = add(t, 0, newcomer(FRESH), plan_of(0, 1));
     say(b"add at place 0", added.answer);
     let removed = remove(t, 0);
     say(b"remove at place 0", removed.answer);
@@ -106,7 +125,7 @@ pub fn change_cases() {
     add_and_remove(b"add to A, first place", 0);
     add_and_remove(b"add to A, middle place", 1);
     add_and_remove(b"add to A, last place", 2);
-    add_case(b"add to A, place m + 1", 3, newcomer(5), plan_of(0, 1));
+    add_case(b"add to A, place m + 1", 3, newcomer(FRESH), plan_of(0, 1));
     remove_case(b"remove from A, first place", 0);
     remove_case(b"remove from A, last place", 1);
     remove_case(b"remove from A, place m", 2);
@@ -114,11 +133,11 @@ pub fn change_cases() {
     add_case(b"add to A, an id that stands later", 0, f, plan_of(0, 1));
     f.id = 7;
     add_case(b"add to A, an id that stands before", 2, f, plan_of(0, 1));
-    f.id = 5;
+    f.id = FRESH;
     f.len = 0;
     add_case(b"add to A, L 0", 1, f, plan_of(0, 1));
-    f.len = 33;
-    add_case(b"add to A, L 33", 1, f, plan_of(0, 1));
+    f.len = Plan::MOST as u16 + 1;
+    add_case(b"add to A, L most + 1", 1, f, plan_of(0, 1));
     f.len = 1;
     add_case(b"add to A, sender at n, first place", 0, f, plan_of(6, 1));
     add_case(b"add to A, sender at n, middle place", 1, f, plan_of(6, 1));
@@ -134,8 +153,9 @@ pub fn change_cases() {
     f.len = 2;
     f.deadline = 1;
     add_case(b"add to A, L over D", 2, f, plan_of(0, 1));
+    add_longest();
     add_to_many();
     change_counts(b"A with n 0", 0, 2);
     change_counts(b"A with m 0", 6, 0);
-    change_counts(b"A with m most + 1", 6, 33);
+    change_counts(b"A with m most + 1", 6, Flow::MOST as u8 + 1);
 }

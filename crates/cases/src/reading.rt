@@ -1,18 +1,24 @@
 // Reading: codes 1 to 8, each side of each limit, and slices that are no books.
-ghost use Prim.Native.Nat.{_≤_};
-ghost use lib.ListN.{length};
+ghost use Prim.Native.Nat.{_+_, _≤_};
+ghost use Rattle.trade.specs.Limits.{mostNodes, mostFlows};
 use crate::books::A;
+use crate::books::A_BYTES;
+use crate::books::ROOM;
 use crate::books::put;
 use crate::books::put_book;
 use crate::books::put_word;
 use crate::said::say;
 use admission::acceptance::check;
 use book::table::read;
+use book::written::put_at;
 use listing::lines::print;
 use trade::Book;
 use trade::Flow;
 use trade::Node;
 use trade::Plan;
+
+// So many bytes stand in front of a book.
+const FRONT: usize = 10;
 
 fn read_case(name: &[u8], book: &[u8]) {
     let got = read(book);
@@ -32,9 +38,7 @@ fn read_byte(name: &[u8], at: usize, v: u8) {
 }
 
 // Book A with two bytes changed.
-fn read_word(name: &[u8], at: usize, v: u16)
-    requires { ⌜ at ≤ 4096 ⌝ }
-{
+fn read_word(name: &[u8], at: usize, v: u16) {
     let mut book = A;
     put_word(&mut book, at, v);
     read_case(name, &book);
@@ -61,36 +65,34 @@ fn read_plan(name: &[u8], a: u8, b: u8, c: u8, d: u8) {
 
 // Book A with bytes in front of it.
 fn read_front() {
-    let mut book = [0xffu8; 100];
-    let mut i = 0;
-    while i < 90 {
-        let v = A[i];
-        book[10 + i] = v;
-        i += 1;
-    }
-    read_case(b"read A with bytes in front", &book);
+    let mut slice = [0xffu8; FRONT + A_BYTES];
+    put_at(&mut slice, FRONT, &A);
+    read_case(b"read A with bytes in front", &slice);
 }
 
-// The front of a buffer as a book.
-fn read_and_check(name: &[u8], buffer: &[u8], len: usize)
-    requires { ⌜ len ≤ length (now buffer) ⌝ }
-{
+fn read_and_check(name: &[u8], book: &[u8]) {
     print(b"read ");
-    read_case(name, &buffer[..len]);
+    read_case(name, book);
     print(b"check ");
-    check_answer(name, &buffer[..len]);
+    check_answer(name, book);
 }
 
-// A book of n nodes and m flows, with the id of one flow changed to that of the first.
-fn read_sized(name: &[u8], n: usize, m: usize, twin: usize)
-    requires { ⌜ (n ≤ 70) × (m ≤ 40) × (twin ≤ 40) ⌝ }
+// A book of n nodes and m flows.
+fn read_sized(name: &[u8], n: usize, m: usize)
+    requires { ⌜ (n ≤ mostNodes + 1) × (m ≤ mostFlows + 1) ⌝ }
 {
-    let mut buffer = [0u8; 1100];
-    let records = Node::ROW_BYTES * n;
-    let len = records + (Flow::RECORD_BYTES + Plan::STEP_BYTES) * m + Book::TRAILER_BYTES;
-    put_book(&mut buffer, n, m);
-    put_word(&mut buffer, records + Flow::RECORD_BYTES * twin, 1);
-    read_and_check(name, &buffer, len);
+    let mut room = [0u8; ROOM];
+    put_book(&mut room, n, m);
+    read_and_check(name, &room);
+}
+
+// The last of the most flows with the id of the first.
+fn read_twins() {
+    let mut room = [0u8; ROOM];
+    let end = ROOM - Book::TRAILER_BYTES - Flow::MOST * Plan::STEP_BYTES;
+    put_book(&mut room, Node::MOST, Flow::MOST);
+    put_word(&mut room, end - Flow::RECORD_BYTES, 1);
+    read_and_check(b"ids equal far apart", &room);
 }
 
 // Codes 1 to 4.
@@ -110,7 +112,7 @@ pub fn read_trailers() {
     read_byte(b"read A, n most + 1", 86, Node::MOST as u8 + 1);
     read_byte(b"read A, m most", 87, Flow::MOST as u8);
     read_byte(b"read A, m most + 1", 87, Flow::MOST as u8 + 1);
-    read_distances(b"read A, distances 65535", 65_535, 65_535, 65_535);
+    read_distances(b"read A, distances 65535", 0xffff, 0xffff, 0xffff);
     read_distances(b"read A, rows distance past the slice", 92, 44, 24);
     read_distances(b"read A, steps distance 8", 76, 28, 8);
     read_distances(b"read A, steps distance 21", 89, 41, 21);
@@ -153,9 +155,9 @@ pub fn read_steps() {
 pub fn read_sizes() {
     let nodes = Node::MOST;
     let flows = Flow::MOST;
-    read_sized(b"n 1, m 0", 1, 0, 40);
-    read_sized(b"n most, m most", nodes, flows, 0);
-    read_sized(b"n most + 1", nodes + 1, flows, 0);
-    read_sized(b"m most + 1", nodes, flows + 1, 0);
-    read_sized(b"ids equal far apart", nodes, flows, flows - 1);
+    read_sized(b"n 1, m 0", 1, 0);
+    read_sized(b"n most, m most", nodes, flows);
+    read_sized(b"n most + 1", nodes + 1, flows);
+    read_sized(b"m most + 1", nodes, flows + 1);
+    read_twins();
 }

@@ -8,6 +8,7 @@ use admission::acceptance::check;
 use listing::lines::print;
 use listing::lines::print_byte;
 use listing::lines::print_word;
+use listing::numbers::WORDS;
 use run::advance::advance;
 use run::start::start;
 use trade::Clock;
@@ -26,7 +27,7 @@ fn print_bounds(bounds: &[u16; Flow::MOST]) {
     print(b"\n");
 }
 
-fn check_case(name: &[u8], book: &[u8]) {
+pub fn check_case(name: &[u8], book: &[u8]) {
     let checked = check(book);
     let bounds = checked.bounds;
     say(name, checked.answer);
@@ -98,8 +99,8 @@ pub fn start_cases() {
 }
 
 fn put_slot(area: &mut [u8], slot: u32) {
-    put_word(area, 0, (slot / 65_536) as u16);
-    put_word(area, 2, (slot % 65_536) as u16);
+    put_word(area, 0, (slot / WORDS) as u16);
+    put_word(area, 2, (slot % WORDS) as u16);
 }
 
 // A run of A, at a slot, with the bytes of its first three places.

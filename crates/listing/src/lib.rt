@@ -1,3 +1,4 @@
-// What the programs print.
+// What the programs print, and the numbers in it.
 pub mod lines;
 pub mod listed;
+pub mod numbers;

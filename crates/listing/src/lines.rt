@@ -2,6 +2,7 @@
 ghost use Prim.Native.Nat.{_≤_};
 ghost use lib.ListN.{length};
 ghost use Rattle.trade.specs.Limits.{grantBytes};
+use crate::numbers::long_at;
 use book::numbers::word_at;
 use libc::STDOUT_FILENO;
 use trade::Answer;
@@ -57,7 +58,7 @@ pub fn print_grant(slot: u64, grant: &[u8])
 {
     io::print_decimal(STDOUT_FILENO, slot);
     print_word(word_at(grant, 0));
-    print_next((word_at(grant, 2) as u64) * 65_536 + (word_at(grant, 4) as u64));
+    print_next(long_at(grant, 2) as u64);
     print_byte(grant[6]);
     print_byte(grant[7]);
     print_byte(grant[8]);

@@ -4,16 +4,17 @@
 //!     compare again KIND BOOK AREA GRANTS [--between A B]     one call, from the words of a mismatch
 
 use slot_host::aimed::{self, Aimed};
-use slot_host::answer::{code_of, packed, CODES, DONE, NO_BOUND};
+use slot_host::answer::{code_of, packed, DONE, NO_BOUND};
 use slot_host::areas;
 use slot_host::call::{from_hex, Call, Kind, Outcome};
 use slot_host::damage;
 use slot_host::dice::Dice;
 use slot_host::draft::Draft;
-use slot_host::generate::{accepted, any, regular, Shape, CROWDED, FULL, MIDDLE, SMALL, WIDE};
+use slot_host::generate::{accepted, of_round, Shape};
 use slot_host::limits::*;
 use slot_host::options::Options;
 use slot_host::planner::{self, Planner};
+use slot_host::tally::Tally;
 use std::process::ExitCode;
 
 const CALLS: u64 = 400_000;
@@ -25,7 +26,8 @@ fn main() -> ExitCode {
         println!("no such planner in this build: {} or {}", pair.0, pair.1);
         return ExitCode::FAILURE;
     };
-    let mut desk = Desk { a, b, counts: [[0; CODES]; 3] };
+    let tally = Tally::new(Kind::ALL.map(|kind| (kind.name(), kind.codes())));
+    let mut desk = Desk { a, b, tally };
     let outcome = if options.word("again") {
         again(&mut desk, options.rest())
     } else {
@@ -47,21 +49,17 @@ fn main() -> ExitCode {
 struct Desk {
     a: &'static dyn Planner,
     b: &'static dyn Planner,
-    counts: [[u64; CODES]; 3],
+    tally: Tally,
 }
 
 impl Desk {
-    fn calls(&self) -> u64 {
-        self.counts.iter().flatten().sum()
-    }
-
     fn ask(&mut self, call: Call) -> Result<Outcome, String> {
         let (ours, theirs) = (call.make(self.a), call.make(self.b));
         if ours != theirs || !ours.kept_out {
             let (a, b) = (self.a.name(), self.b.name());
             return Err(format!("MISMATCH\n  {a}: {ours}\n  {b}: {theirs}\n  to repeat: compare again {call}"));
         }
-        self.counts[call.kind as usize][code_of(ours.answer) as usize] += 1;
+        self.tally.count(call.kind as usize, code_of(ours.answer));
         Ok(ours)
     }
 
@@ -78,27 +76,16 @@ impl Desk {
 fn compare(desk: &mut Desk, calls: u64, seed: u64) -> Result<(), String> {
     let dice = &mut Dice::new(seed);
     let mut round = 0;
-    while desk.calls() < calls {
-        // Small books come first, so that a difference shows on a small one if it can.
-        let shape = match round % 64 {
-            63 => &FULL,
-            15 | 47 => &WIDE,
-            31 => &CROWDED,
-            r if r % 4 == 3 => &MIDDLE,
-            _ => &SMALL,
-        };
-        let draft = match dice.below(6) {
-            0 | 1 => any(dice, shape),
-            2 if round % 64 == 63 => regular(dice.roll(), MAX_NODES, MAX_FLOWS, MAX_LEN),
-            _ => accepted(dice, shape),
-        };
+    while desk.tally.total() < calls {
+        let (shape, draft) = of_round(dice, round);
         one_book(desk, dice, &draft).map_err(|what| format!("round {round}: {what}"))?;
         if round % 8 == 3 {
             aimed_books(desk, dice, shape).map_err(|what| format!("round {round}, aimed: {what}"))?;
         }
         round += 1;
     }
-    summary(desk, round)
+    println!("{} calls on {round} books and damaged copies of them: no difference", desk.tally.total());
+    desk.tally.close()
 }
 
 /// A valid book: the three calls, many slots out of any area, a run from start and one from anywhere, and damaged
@@ -154,29 +141,6 @@ fn aimed_books(desk: &mut Desk, dice: &mut Dice, shape: &Shape) -> Result<(), St
         }
     }
     Ok(())
-}
-
-/// Prints the counts; every code of every call must have been met.
-fn summary(desk: &Desk, rounds: u64) -> Result<(), String> {
-    println!("{} calls on {rounds} books and damaged copies of them: no difference", desk.calls());
-    let mut missing = Vec::new();
-    for kind in Kind::ALL {
-        let counts = &desk.counts[kind as usize];
-        let met = kind.codes().iter().map(|&code| format!("{code}: {}", counts[code as usize]));
-        println!(
-            "  {:7} {} calls; by code {}",
-            kind.name(),
-            counts.iter().sum::<u64>(),
-            met.collect::<Vec<_>>().join(", ")
-        );
-        let unmet = kind.codes().iter().filter(|&&code| counts[code as usize] == 0);
-        missing.extend(unmet.map(|code| format!("{} {code}", kind.name())));
-    }
-    if missing.is_empty() {
-        Ok(())
-    } else {
-        Err(format!("codes that were never met: {}", missing.join(", ")))
-    }
 }
 
 fn again(desk: &mut Desk, words: &[String]) -> Result<(), String> {

@@ -7,22 +7,31 @@ use Rattle.cases.proofs.books.put_flows.Statement.{statement}
 use Rattle.cases.proofs.books.put_flows.Tie as tie
 
 abbrev Inv-loop : tie.InvT-loop
-Inv-loop buffer₀ records steps m i₀ buffer i = (i ≤ m) × (length buffer ≡ length buffer₀)
+Inv-loop room₀ records steps m i₀ room i = (i ≤ m) × (length room ≡ length room₀)
 
 abbrev μ-loop : tie.MeasureT-loop
-μ-loop buffer₀ records steps m i₀ buffer i = m - i
+μ-loop room₀ records steps m i₀ room i = m - i
 
 loop-holds : tie.Need-loop-holds Inv-loop μ-loop
 loop-holds c = search needs
 
-mul-put-record : tie.Need-mul-put-record Inv-loop μ-loop
-mul-put-record c = search needs
+mul-at : tie.Need-mul-at Inv-loop μ-loop
+mul-at c = search needs
+
+add-at : tie.Need-add-at Inv-loop μ-loop
+add-at c = search needs
+
+sub-put-record : tie.Need-sub-put-record Inv-loop μ-loop
+sub-put-record c = search needs
+
+part-put-record-start : tie.Need-part-put-record-start Inv-loop μ-loop
+part-put-record-start c = search needs
+
+part-put-record-end : tie.Need-part-put-record-end Inv-loop μ-loop
+part-put-record-end c = search needs
 
 add-put-record : tie.Need-add-put-record Inv-loop μ-loop
 add-put-record c = search needs
-
-add-put-record-2 : tie.Need-add-put-record-2 Inv-loop μ-loop
-add-put-record-2 c = search needs
 
 cast-put-record : tie.Need-cast-put-record Inv-loop μ-loop
 cast-put-record c = search needs
@@ -64,9 +73,12 @@ put-flows-spec =
     Inv-loop
     μ-loop
     loop-holds
-    mul-put-record
+    mul-at
+    add-at
+    sub-put-record
+    part-put-record-start
+    part-put-record-end
     add-put-record
-    add-put-record-2
     cast-put-record
     put-record-requires
     mul-put

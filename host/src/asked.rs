@@ -1,0 +1,183 @@
+//! Requests for the four calls on a table: ordinary ones, and ones at and past every edge.
+
+use crate::aimed::{self, Aimed};
+use crate::answer::*;
+use crate::damage;
+use crate::dice::Dice;
+use crate::draft::{Draft, DraftFlow};
+use crate::generate::{newcomer, regular};
+use crate::limits::*;
+use crate::plain::book::Record;
+use crate::plain::table::{Table, PLAN_BYTES};
+use crate::request::Request;
+use crate::tables::{at_random, littered, of_damaged, places};
+
+/// A request, and the answer that it must get where that is known beforehand.
+pub struct Asked {
+    pub request: Request,
+    pub wanted: Option<u32>,
+}
+
+fn open(request: Request) -> Asked {
+    Asked { request, wanted: None }
+}
+
+/// A slice or a buffer of a request is at most this long.
+const LONGEST: usize = u16::MAX as usize;
+
+/// All four calls on a valid book, on its table, and on damaged copies of both.
+pub fn around(dice: &mut Dice, draft: &Draft) -> Vec<Asked> {
+    let mut requests = reads(dice, draft);
+    for table in [littered(dice, draft), at_random(dice, draft), at_random(dice, draft)] {
+        requests.extend(writes(dice, &table, draft.bytes().len()));
+        requests.extend(removes(dice, &table, draft.flows.len()));
+        let flow = newcomer(dice, draft);
+        requests.extend(places_to_add(dice, &table, draft.flows.len(), &flow));
+    }
+    requests.extend(crowded(dice));
+    requests.extend(fields_to_add(dice, draft));
+    requests.extend(steps_to_add(dice, draft));
+    requests.extend(tight(dice, draft));
+    requests.into_iter().map(open).collect()
+}
+
+/// The book, with bytes in front of it, cut, damaged, and no book at all.
+fn reads(dice: &mut Dice, draft: &Draft) -> Vec<Request> {
+    let book = draft.bytes();
+    let cut = dice.below(book.len());
+    let mut slices = vec![book.clone(), book[cut..].to_vec(), book[..cut].to_vec(), damage::noise(dice)];
+    for front in [dice.between(1, 20), LONGEST - book.len()] {
+        slices.push([dice.bytes(front), book.clone()].concat());
+    }
+    slices.extend((0..4).map(|_| damage::at_random(dice, &book)));
+    slices.into_iter().map(|slice| Request::Read { slice }).collect()
+}
+
+/// Buffers around the room that the book takes, and at both ends of their lengths.
+fn writes(dice: &mut Dice, table: &Table, room: usize) -> Vec<Request> {
+    let around = dice.below(room + 40);
+    let longest = if dice.once_in(8) { LONGEST } else { 2 * room };
+    let lengths = [0, TRAILER_BYTES - 1, room - 1, room, room + 1, around, longest];
+    let request = |length| Request::Write { table: table.clone(), buffer: dice.bytes(length) };
+    lengths.map(request).to_vec()
+}
+
+/// Places among and around m flows, and ones that look like these in their lower bytes alone.
+fn some_places(dice: &mut Dice, flows: usize) -> Vec<u64> {
+    let (m, among) = (flows as u64, dice.below(flows + 1) as u64);
+    let high = 1u64 << dice.pick(&[8, 16, 31, 32, 63]);
+    vec![0, among, m.saturating_sub(1), m, m + 1, MAX_FLOWS as u64, high, high + among, u64::MAX]
+}
+
+fn removes(dice: &mut Dice, table: &Table, flows: usize) -> Vec<Request> {
+    let request = |place| Request::Remove { table: table.clone(), place };
+    some_places(dice, flows).into_iter().map(request).collect()
+}
+
+fn places_to_add(dice: &mut Dice, table: &Table, flows: usize, flow: &DraftFlow) -> Vec<Request> {
+    let request = |place| add(table, place, flow.record(), places(&flow.plan));
+    some_places(dice, flows).into_iter().map(request).collect()
+}
+
+/// Tables with the most flows and with one less.
+fn crowded(dice: &mut Dice) -> Vec<Request> {
+    let mut requests = Vec::new();
+    for flows in [MAX_FLOWS - 1, MAX_FLOWS] {
+        let draft = regular(dice.roll(), 8, flows, 1);
+        let (table, flow) = (littered(dice, &draft), newcomer(dice, &draft));
+        requests.extend(places_to_add(dice, &table, flows, &flow));
+        requests.extend(removes(dice, &table, flows));
+    }
+    requests
+}
+
+fn add(table: &Table, place: u64, record: Record, plan: [u8; PLAN_BYTES]) -> Request {
+    Request::Add { table: table.clone(), place, record, plan }
+}
+
+/// A newcomer with each field at and beyond the ends of its range, and with the ids of other flows.
+fn fields_to_add(dice: &mut Dice, draft: &Draft) -> Vec<Request> {
+    let (table, flow) = (littered(dice, draft), newcomer(dice, draft));
+    let (max_phase, max_period, max_len) = (MAX_PHASE as u16, MAX_PERIOD as u16, MAX_LEN as u16);
+    let own = flow.record();
+    let ids = draft.flows.iter().map(|other| other.id).chain([0, 1, u16::MAX]);
+    let mut records: Vec<Record> = ids.map(|id| Record { id, ..own }).collect();
+    records.extend([0, max_phase, max_phase + 1, u16::MAX].map(|phase| Record { phase, ..own }));
+    for period in [0, 1, own.len, max_period, max_period + 1, u16::MAX] {
+        records.extend([0, 1, period.saturating_sub(1), period, period.saturating_add(1)].map(|deadline| Record {
+            period,
+            deadline,
+            ..own
+        }));
+    }
+    records.extend([0, 1, max_len, max_len + 1, 256 + own.len, u16::MAX].map(|len| Record { len, ..own }));
+    let steps = [flow.plan[0]; MAX_LEN];
+    let request = |record| add(&table, dice.below(draft.flows.len() + 1) as u64, record, places(&steps));
+    records.into_iter().map(request).collect()
+}
+
+/// A newcomer with one step that is bad, or only past the end of its plan.
+fn steps_to_add(dice: &mut Dice, draft: &Draft) -> Vec<Request> {
+    let (table, flow) = (littered(dice, draft), newcomer(dice, draft));
+    let (nodes, k) = (draft.nodes() as u8, dice.below(flow.plan.len()));
+    let (sender, receiver) = flow.plan[k];
+    let jump = (dice.below(draft.nodes()) as u8, dice.below(draft.nodes()) as u8);
+    let steps = [(nodes, receiver), (sender, nodes), (sender, sender), (u8::MAX, receiver), (sender, u8::MAX), jump];
+    let mut request = |step: (u8, u8)| {
+        let mut plan = places(&flow.plan);
+        plan[STEP_BYTES * k..STEP_BYTES * (k + 1)].copy_from_slice(&[step.0, step.1]);
+        add(&table, dice.below(draft.flows.len() + 1) as u64, flow.record(), plan)
+    };
+    steps.into_iter().map(&mut request).collect()
+}
+
+/// A newcomer whose deadline is at its bound and one below; and a flow of the book, taken out and put in again.
+fn tight(dice: &mut Dice, draft: &Draft) -> Vec<Request> {
+    let mut requests = Vec::new();
+    let (place, flow) = (dice.below(draft.flows.len() + 1), newcomer(dice, draft));
+    let mut with = draft.clone();
+    with.flows.insert(place, flow.clone());
+    let fits = draft.nodes() > 1 && draft.flows.len() < MAX_FLOWS;
+    if let Some(bound) = fits.then(|| with.facts().bound(place)).flatten() {
+        let table = littered(dice, draft);
+        let record = |deadline| Record { deadline, ..flow.record() };
+        let request = |deadline| add(&table, place as u64, record(deadline), places(&flow.plan));
+        requests.extend([bound, bound - 1, bound + 1].map(request));
+    }
+    if !draft.flows.is_empty() {
+        let place = dice.below(draft.flows.len());
+        let mut rest = draft.clone();
+        let flow = rest.flows.remove(place);
+        requests.push(add(&littered(dice, &rest), place as u64, flow.record(), places(&flow.plan)));
+    }
+    requests
+}
+
+/// Damaged copies of an accepted book, each made to meet one code, read; and their tables, handed to the other calls.
+pub fn aimed(dice: &mut Dice, draft: &Draft) -> Vec<Asked> {
+    let mut requests = Vec::new();
+    for Aimed { book, answer } in aimed::around(dice, draft) {
+        let damaged = of_damaged(dice, draft, &book);
+        let read = if code_of(answer) == NO_BOUND { packed(DONE, 0) } else { answer };
+        requests.push(Asked { request: Request::Read { slice: book }, wanted: Some(read) });
+        let tested = [BAD_COUNT, BAD_ROW, BAD_RECORD, BAD_STEP].contains(&code_of(answer));
+        if let Some(table) = damaged {
+            let request = table_call(dice, table, draft);
+            requests.push(Asked { request, wanted: tested.then_some(answer) });
+        }
+    }
+    requests
+}
+
+/// One of the calls that are handed a table.
+fn table_call(dice: &mut Dice, table: Table, draft: &Draft) -> Request {
+    let place = dice.pick(&[0, draft.flows.len() as u64, u64::MAX]);
+    match dice.below(3) {
+        0 => Request::Write { table, buffer: dice.bytes(draft.bytes().len()) },
+        1 => Request::Remove { table, place },
+        _ => {
+            let flow = newcomer(dice, draft);
+            add(&table, place, flow.record(), places(&flow.plan))
+        }
+    }
+}

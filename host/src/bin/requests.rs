@@ -1,0 +1,131 @@
+//! Asks the proved program `requests` and `plain` to read, write, add and remove the same, and compares all they answer.
+//!
+//!     requests [--calls N] [--seed S]
+//!     requests again HEX          one request, from the words of a mismatch
+//!     requests store FOLDER       the input and the output that are kept beside the source of the proved program
+
+use slot_host::answer::{code_of, number_of};
+use slot_host::asked::{self, Asked};
+use slot_host::call::{from_hex, hex};
+use slot_host::dice::Dice;
+use slot_host::draft::book_a;
+use slot_host::generate::{accepted, newcomer, of_round};
+use slot_host::options::Options;
+use slot_host::program;
+use slot_host::request::{Reply, Request, CALLS};
+use slot_host::tables::{littered, places};
+use slot_host::tally::Tally;
+use std::io::Read;
+use std::process::ExitCode;
+
+const REQUESTS: u64 = 40_000;
+
+fn main() -> ExitCode {
+    let mut options = Options::from_args();
+    let outcome = if options.word("again") {
+        again(options.rest())
+    } else if options.word("store") {
+        store(options.rest())
+    } else {
+        let (requests, seed) = (options.number("--calls", REQUESTS), options.number("--seed", 1));
+        options.finish();
+        println!("the proved program against plain, seed {seed}");
+        compare(requests, seed)
+    };
+    match outcome {
+        Ok(()) => ExitCode::SUCCESS,
+        Err(what) => {
+            println!("{what}");
+            ExitCode::FAILURE
+        }
+    }
+}
+
+fn compare(requests: u64, seed: u64) -> Result<(), String> {
+    let dice = &mut Dice::new(seed);
+    let mut tally = Tally::new(CALLS);
+    let mut round = 0;
+    while tally.total() < requests {
+        let (shape, draft) = of_round(dice, round);
+        let mut all = asked::around(dice, &draft);
+        if round % 8 == 3 {
+            let draft = accepted(dice, shape);
+            all.extend(asked::aimed(dice, &draft));
+        }
+        ask(&mut tally, &all).map_err(|what| format!("round {round}: {what}"))?;
+        let some = dice.below(all.len());
+        endings(dice, &all[some].request)?;
+        round += 1;
+    }
+    tally.close()?;
+    println!("{} requests on {round} books and damaged copies of them, all alike; every code met", tally.total());
+    Ok(())
+}
+
+/// One run of the program over all of these requests.
+fn ask(tally: &mut Tally, all: &[Asked]) -> Result<(), String> {
+    let input: Vec<u8> = all.iter().flat_map(|asked| asked.request.bytes()).collect();
+    program::run(&input, |answers| all.iter().try_for_each(|asked| judge(tally, asked, answers)))
+}
+
+/// The next answer has to be that of `plain`, and the one that was aimed at.
+fn judge(tally: &mut Tally, asked: &Asked, answers: &mut impl Read) -> Result<(), String> {
+    let request = &asked.request;
+    let again = || format!("\n  to repeat: requests again {}", hex(&request.bytes()));
+    let theirs = request.reply_of_plain();
+    let ours = request.reply_from(answers).map_err(|what| format!("NO ANSWER: {what}{}", again()))?;
+    if let Some(what) = ours.unlike(&theirs) {
+        return Err(format!("MISMATCH in {}, proved and plain: {what}{}", CALLS[request.call()].0, again()));
+    }
+    if let Some(wanted) = asked.wanted {
+        let (code, number) = (code_of(wanted), number_of(wanted));
+        if (ours.code, ours.number) != (code, number as u64) {
+            return Err(format!("WRONG ANSWER, both, {ours} where {code} {number} was aimed at{}", again()));
+        }
+    }
+    tally.count(request.call(), ours.code);
+    Ok(())
+}
+
+/// A request that is cut short, and a call that there is not, end the program without an answer.
+fn endings(dice: &mut Dice, request: &Request) -> Result<(), String> {
+    let whole = request.bytes();
+    let cut = dice.below(whole.len());
+    let no_call = dice.pick(&[0, CALLS.len() as u8 + 1, u8::MAX]);
+    for end in [whole[..cut].to_vec(), [&[no_call], &whole[..]].concat()] {
+        let input = [&whole[..], &end].concat();
+        program::run(&input, |answers| request.reply_from(answers).map_err(|what| what.to_string()))
+            .map_err(|what| format!("ENDING: {what}\n  the input was {}", hex(&input)))?;
+    }
+    Ok(())
+}
+
+fn again(words: &[String]) -> Result<(), String> {
+    let usage = || "requests again HEX".to_string();
+    let [text] = words else { return Err(usage()) };
+    let bytes = from_hex(text).ok_or_else(usage)?;
+    let request = Request::from_bytes(&mut &bytes[..]).map_err(|_| usage())?;
+    let told = |who: &str, reply: &Reply| println!("{who}: {reply}, {}", hex(&reply.memory));
+    let theirs = request.reply_of_plain();
+    told("plain", &theirs);
+    let ours = program::run(&bytes, |answers| request.reply_from(answers).map_err(|what| what.to_string()))?;
+    told("proved", &ours);
+    ours.unlike(&theirs).map_or(Ok(()), Err)
+}
+
+/// Each call once on book A or its table, and the answers of `plain`.
+fn store(words: &[String]) -> Result<(), String> {
+    let [folder] = words else { return Err("requests store FOLDER".to_string()) };
+    let (dice, draft) = (&mut Dice::new(1), book_a());
+    let (slice, table, flow) = (draft.bytes(), littered(dice, &draft), newcomer(dice, &draft));
+    let requests = [
+        Request::Write { table: table.clone(), buffer: dice.bytes(slice.len() + 1) },
+        Request::Add { table: table.clone(), place: 1, record: flow.record(), plan: places(&flow.plan) },
+        Request::Remove { table, place: 1 },
+        Request::Read { slice },
+    ];
+    let input: Vec<u8> = requests.iter().flat_map(Request::bytes).collect();
+    let output: Vec<u8> = requests.iter().flat_map(|request| request.reply_of_plain().bytes()).collect();
+    let keep = |name: &str, bytes: Vec<u8>| std::fs::write(format!("{folder}/{name}"), bytes);
+    keep("stdin", input).and_then(|()| keep("stdout", output)).map_err(|what| what.to_string())
+}

@@ -27,7 +27,7 @@ use Rattle.trade.proofs.Valid.{outside-false}
 use Rattle.book.specs.Records.{misfit}
 use Rattle.book.proofs.BadRecord.{bad-record}
 use Rattle.book.proofs.Writing.{sized}
-use Rattle.admission.specs.Change.{mayAdd, mayRemove, newRules, Unfit, Grows, Shrinks}
+use Rattle.admission.specs.Change.{mayChange, mayAdd, mayRemove, newRules, Unfit, Grows, Shrinks}
 use Rattle.admission.proofs.Grown.{flow-record, kept-before, put-in, sizes, few, longer, all-used}
 
 -- zeros behind the used places say nothing more
@@ -184,7 +184,7 @@ module _ (a : Adding) (unfit : Bool) where
   -- what is refused before anything is moved is refused so by the call
   module _ (memory : InMemory (a .table)) (f : Unfit (a .flow) unfit) where
     pub add-early : (mayAdd (a .table) (a .place) unfit .code ≡ 0 → ⊥) → addAnswer a ≡ mayAdd (a .table) (a .place) unfit
-    unfolding mayAdd
+    unfolding mayChange
     add-early n =
         ⊎-elim
         (λ (e : isDone (firstOf tableRules noNumber (a .table)) ≡ true).
@@ -200,7 +200,7 @@ module _ (a : Adding) (unfit : Bool) where
 
   -- and what is not has passed
   pub enters : mayAdd (a .table) (a .place) unfit .code ≡ 0 → Enters a unfit
-  unfolding mayAdd
+  unfolding mayChange
   enters z =
       let (old, z₁) = past-first _ _ z in
       let (room, z₂) = past-refusal _ _ _ (λ (n : _≡_ {A = ℕ} 14 0). omega arith) z₁ in
@@ -258,13 +258,13 @@ module _ (r : Removing) where
 
   -- the answer is the one given before anything is moved
   pub remove-answer : removeAnswer r ≡ mayRemove (r .table) (r .place)
-  unfolding mayRemove code15Removing factsOf given
+  unfolding mayChange code15Removing factsOf given
   remove-answer = by-rules ∙ ap (λ (x : Answer). cond (isDone (firstOf tableRules noNumber (r .table))) x (firstOf tableRules noNumber (r .table)))
       (firstOf-last {A = Removing} (λ q. code15Removing (factsOf (q .table)) (q .place)) r (given-passes 14 (leb (r .table .flows) (r .place)) 0))
 
   -- and a flow that may go is there
   pub shrinks : InMemory (r .table) → mayRemove (r .table) (r .place) .code ≡ 0 → Shrinks r
-  unfolding mayRemove
+  unfolding mayChange
   shrinks m z =
       let (old, z₁) = past-first _ _ z in
       let (place, z₂) = past-refusal (leb (r .table .flows) (r .place)) (refused 15 0) (done 0) (λ (n : _≡_ {A = ℕ} 15 0). omega arith) z₁ in

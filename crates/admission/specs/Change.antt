@@ -1,6 +1,6 @@
 -- Bytes with a part exchanged, and what a change of a table owes. Leans on the trade's calls.
 use Prim.Native.Nat.{ℕ, _+_, _-_, _*_, _≤_, _<_}
-use mathlib.Core.Bool.{Bool, cond}
+use mathlib.Core.Bool.{Bool, false, cond}
 use mathlib.Core.List.{List, [], _∷_, _++_}
 use lib.Dec.{eqb, leb, ltb}
 use lib.ListN.{length, take, drop}
@@ -43,19 +43,20 @@ pub record Unfit (w : Flow) (is : Bool) : Type 0 where
   pub deadline : w .deadline < 65536
   pub len : w .len < 65536
 
--- the rules on the old table, 14 and 15, and the newcomer's own fields: where one is outside its range, the new table's first bad
--- record is the newcomer
-unfoldable pub mayAdd : Sections → ℕ → Bool → Answer
-mayAdd t place unfit =
+-- the rules on the old table, then 14 if it is full, 15 if the place is outside, and 6 at the place if what comes there is unfit
+unfoldable pub mayChange : Sections → ℕ → Bool → Bool → Bool → Answer
+mayChange t place full outside unfit =
     cond (isDone (firstOf tableRules noNumber t))
-    (cond (eqb (t .flows) mostFlows) (refused 14 0)
-    (cond (ltb (t .flows) place) (refused 15 0) (cond unfit (refused 6 place) (done 0))))
+    (cond full (refused 14 0) (cond outside (refused 15 0) (cond unfit (refused 6 place) (done 0))))
     (firstOf tableRules noNumber t)
 
--- the rules on the old table, and 15
-unfoldable pub mayRemove : Sections → ℕ → Answer
-mayRemove t place =
-    cond (isDone (firstOf tableRules noNumber t)) (cond (leb (t .flows) place) (refused 15 0) (done 0)) (firstOf tableRules noNumber t)
+-- adding: where a field of the newcomer is outside its range, the new table's first bad record is the newcomer
+abbrev pub mayAdd : Sections → ℕ → Bool → Answer
+mayAdd t place unfit = mayChange t place (eqb (t .flows) mostFlows) (ltb (t .flows) place) unfit
+
+-- removing
+abbrev pub mayRemove : Sections → ℕ → Answer
+mayRemove t place = mayChange t place false (leb (t .flows) place) false
 
 -- the rules on the new table
 unfoldable pub newRules : List (Sections → Answer)

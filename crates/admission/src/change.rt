@@ -8,7 +8,7 @@ ghost use Rattle.trade.specs.Layout.{sections};
 ghost use Rattle.trade.specs.Table.{InMemory, tableOf, rowsRoom, recordsRoom, stepsRoom};
 ghost use Rattle.trade.specs.Answers.{firstOf, noNumber};
 ghost use Rattle.trade.specs.Calls.{recordOf, withFlow, withoutFlow};
-ghost use Rattle.admission.specs.Change.{spliced, cutOpen, Cuts, Unfit, mayAdd, mayRemove, newRules, Grows, Shrinks, Adds, Removes};
+ghost use Rattle.admission.specs.Change.{spliced, cutOpen, Cuts, Unfit, mayChange, mayAdd, mayRemove, newRules, Grows, Shrinks, Adds, Removes};
 ghost use Rattle.book.specs.Table.{sectionsIn};
 use crate::bounds::bounds_of;
 use book::records::is_misfit;
@@ -112,7 +112,38 @@ fn is_unfit(id: u16, phase: u16, period: u16, deadline: u16, len: u16) -> bool
     })
 }
 
-// Codes 3, 5, 6 and 8 on the old table, then 14 and 15; then the newcomer's own fields, before anything is moved.
+// Codes 3, 5, 6 and 8 on the old table, then what a change finds: 14, 15, and 6 at its place.
+fn may_change<'a>(
+    nodes: usize,
+    flows: usize,
+    rows: &'a [u8],
+    records: &'a [u8],
+    steps: &'a [u8],
+    place: usize,
+    full: bool,
+    outside: bool,
+    unfit: bool,
+) -> Answer
+    requires { ⌜ InMemory (sections nodes flows (now rows) (now records) (now steps)) ⌝ }
+    ensures { λ r. ⌜ r ≡ mayChange (sections nodes flows (now (rows .entry)) (now (records .entry)) (now (steps .entry))) place full outside unfit ⌝ }
+{
+    let tested = table_answer(nodes, flows, rows, records, steps);
+    if tested.code != 0 {
+        return tested;
+    }
+    if full {
+        return Answer::refused(14, 0);
+    }
+    if outside {
+        return Answer::refused(15, 0);
+    }
+    if unfit {
+        return Answer::refused(6, place as u64);
+    }
+    Answer::done(0)
+}
+
+// Adding: the newcomer's own fields are tested before anything is moved.
 fn may_add<'a>(
     nodes: usize,
     flows: usize,
@@ -125,23 +156,22 @@ fn may_add<'a>(
     requires { ⌜ InMemory (sections nodes flows (now rows) (now records) (now steps)) ⌝ }
     ensures { λ r. ⌜ r ≡ mayAdd (sections nodes flows (now (rows .entry)) (now (records .entry)) (now (steps .entry))) place unfit ⌝ }
 {
-    let tested = table_answer(nodes, flows, rows, records, steps);
-    if tested.code != 0 {
-        return tested;
-    }
-    if flows == Flow::MOST {
-        return Answer::refused(14, 0);
-    }
-    if flows < place {
-        return Answer::refused(15, 0);
-    }
-    if unfit {
-        return Answer::refused(6, place as u64);
-    }
-    Answer::done(0)
+    let full = flows == Flow::MOST;
+    let outside = flows < place;
+    may_change(
+        nodes,
+        flows,
+        rows,
+        records,
+        steps,
+        place,
+        full,
+        outside,
+        unfit,
+    )
 }
 
-// Codes 3, 5, 6 and 8 on the old table, then 15.
+// Removing: no table is too full for it, and nothing comes.
 fn may_remove<'a>(
     nodes: usize,
     flows: usize,
@@ -153,14 +183,18 @@ fn may_remove<'a>(
     requires { ⌜ InMemory (sections nodes flows (now rows) (now records) (now steps)) ⌝ }
     ensures { λ r. ⌜ r ≡ mayRemove (sections nodes flows (now (rows .entry)) (now (records .entry)) (now (steps .entry))) place ⌝ }
 {
-    let tested = table_answer(nodes, flows, rows, records, steps);
-    if tested.code != 0 {
-        return tested;
-    }
-    if flows <= place {
-        return Answer::refused(15, 0);
-    }
-    Answer::done(0)
+    let outside = flows <= place;
+    may_change(
+        nodes,
+        flows,
+        rows,
+        records,
+        steps,
+        place,
+        false,
+        outside,
+        false,
+    )
 }
 
 // Codes 6, 8 and 9 on the new table, every flow tested.

@@ -1,18 +1,18 @@
--- `admission::change::may_add` meets its contract: each answer stands behind the tests that led to it. Assumes nothing.
+-- `admission::change::may_change` meets its contract: each answer stands behind the tests that led to it. Assumes nothing.
 use mathlib.Core.Path.{_≡_, _∙_, sym, ap}
 use mathlib.Core.Bool.{true, false}
 use denote.Ref.{now}
-use borrow.Author.Tests.{eq-eqb, ne-eqb, lt-ltb, le-ltb}
+use borrow.Author.Tests.{eq-eqb, ne-eqb}
 use Rattle.trade.specs.Layout.{sections}
 use Rattle.trade.specs.Answers.{isDone, firstOf, noNumber}
 use Rattle.trade.specs.Calls.{tableRules}
 use Rattle.trade.specs.declared.answer.Answer.{Answer}
-use Rattle.admission.specs.Change.{mayAdd}
+use Rattle.admission.specs.Change.{mayChange}
 use borrow.Author.Needs.{needs}
-use Rattle.admission.proofs.change.may_add.Statement.{statement}
-use Rattle.admission.proofs.change.may_add.Tie as tie
-use Rattle.admission.proofs.change.may_add.Reads as reads
-use Rattle.admission.proofs.change.may_add.Lts as lts
+use Rattle.admission.proofs.change.may_change.Statement.{statement}
+use Rattle.admission.proofs.change.may_change.Tie as tie
+use Rattle.admission.proofs.change.may_change.Reads as reads
+use Rattle.admission.proofs.change.may_change.Lts as lts
 use Rattle.book.proofs.table.table_answer.Reads as table-answer-reads
 use Rattle.trade.proofs.answer.Answer.done.Reads as done-reads
 use Rattle.trade.proofs.answer.Answer.refused.Reads as refused-reads
@@ -28,7 +28,7 @@ table-answer-requires c κs = search needs
 
 -- src/change.rt:115:9
 returns : tie.Need-returns
-unfolding mayAdd isDone
+unfolding mayChange isDone
 returns c =
     let e = c .before .before .table-answer .ensures in
     e ∙ rw (ne-eqb _ 0 (λ z. c .if1 .taken (ap (λ (r : Answer). r .code) e ∙ z)))
@@ -39,8 +39,8 @@ refused-requires c κs = search needs
 
 -- src/change.rt:118:9
 returns-2 : tie.Need-returns-2
-unfolding mayAdd
-returns-2 c = c .refused .ensures ∙ rw (passes (c .before .before), eq-eqb _ _ (c .before .if2 .taken))
+unfolding mayChange
+returns-2 c = c .refused .ensures ∙ rw (passes (c .before .before), c .before .if2 .taken)
 
 -- src/change.rt:121:9
 refused-requires-2 : tie.Need-refused-requires-2
@@ -48,10 +48,10 @@ refused-requires-2 c κs = search needs
 
 -- src/change.rt:121:9
 returns-3 : tie.Need-returns-3
-unfolding mayAdd
+unfolding mayChange
 returns-3 c =
     c .refused2 .ensures
-    ∙ rw (passes (c .before .before .before), ne-eqb _ _ (c .before .before .if2 .left), lt-ltb _ _ (c .before .if3 .taken))
+    ∙ rw (passes (c .before .before .before), c .before .before .if2 .left, c .before .if3 .taken)
 
 -- src/change.rt:124:9
 refused-requires-3 : tie.Need-refused-requires-3
@@ -59,11 +59,11 @@ refused-requires-3 c κs = search needs
 
 -- src/change.rt:124:9
 returns-4 : tie.Need-returns-4
-unfolding mayAdd
+unfolding mayChange
 returns-4 c =
     c .refused3 .ensures
     ∙ rw
-    (passes (c .before .before .before .before), ne-eqb _ _ (c .before .before .before .if2 .left), le-ltb _ _ (c .before .before .if3 .left), c .before .if4 .taken)
+    (passes (c .before .before .before .before), c .before .before .before .if2 .left, c .before .before .if3 .left, c .before .if4 .taken)
 
 -- src/change.rt:126:5
 done-requires : tie.Need-done-requires
@@ -71,14 +71,14 @@ done-requires c κs = search needs
 
 -- src/change.rt:107:1
 returns-5 : tie.Need-returns-5
-unfolding mayAdd
+unfolding mayChange
 returns-5 c =
     c .done .ensures
     ∙ rw
-    (passes (c .before .before .before .before), ne-eqb _ _ (c .before .before .before .if2 .left), le-ltb _ _ (c .before .before .if3 .left), c .before .if4 .left)
+    (passes (c .before .before .before .before), c .before .before .before .if2 .left, c .before .before .if3 .left, c .before .if4 .left)
 
-pub may-add-spec : {M : Type 1} → statement M
-may-add-spec =
+pub may-change-spec : {M : Type 1} → statement M
+may-change-spec =
     tie.close
     (tie.spec
     table-answer-requires

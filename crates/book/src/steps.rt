@@ -9,6 +9,7 @@ ghost use Rattle.trade.specs.Layout.{field};
 ghost use Rattle.trade.specs.Facts.{factsIn};
 ghost use Rattle.trade.specs.Codes.{code8};
 ghost use Rattle.book.specs.Steps.{misplaced, unjoined, badInPlan};
+use crate::at_once::counts_agree;
 use crate::records::len_at;
 use plans::steps::step_at;
 use trade::Answer;
@@ -16,7 +17,7 @@ use trade::Plan;
 use trade::Transmission;
 
 // Whether a step's sender or receiver is at or above n, or the two are equal.
-fn is_misplaced(nodes: usize, t: Transmission) -> bool
+pub(crate) fn is_misplaced(nodes: usize, t: Transmission) -> bool
     ensures { λ r. ⌜ r ≡ misplaced nodes t ⌝ }
 {
     let a = t.sender.0 as usize;
@@ -25,7 +26,7 @@ fn is_misplaced(nodes: usize, t: Transmission) -> bool
 }
 
 // Whether a step neither repeats the one before nor starts at its receiver.
-fn is_unjoined(t: Transmission, before: Transmission) -> bool
+pub(crate) fn is_unjoined(t: Transmission, before: Transmission) -> bool
     ensures { λ r. ⌜ r ≡ unjoined t before ⌝ }
 {
     let repeats = (t.sender.0 == before.sender.0) & (t.receiver.0 == before.receiver.0);
@@ -60,8 +61,8 @@ fn first_bad_step(nodes: usize, plan: &[u8], len: usize) -> usize
     j
 }
 
-// Code 8, at the first bad step, counted over all plans.
-pub fn steps_answer(nodes: usize, flows: usize, records: &[u8], steps: &[u8]) -> Answer
+// Code 8 by a search through the plans, one after the other.
+fn searched_answer(nodes: usize, flows: usize, records: &[u8], steps: &[u8]) -> Answer
     requires { ⌜ (flows ≤ mostFlows) × (recordBytes * flows ≤ length (now records)) ⌝ }
     requires { ⌜ stepBytes * sumTo (λ i. field (now records) i 4) flows ≤ length (now steps) ⌝ }
     ensures { λ r. ⌜ r ≡ code8 (factsIn nodes flows [] (now (records .entry)) (now (steps .entry))) ⌝ }
@@ -79,4 +80,16 @@ pub fn steps_answer(nodes: usize, flows: usize, records: &[u8], steps: &[u8]) ->
         i += 1;
     }
     Answer::done(0)
+}
+
+// Code 8, at the first bad step, counted over all plans. They are searched only if their counts do not agree.
+pub fn steps_answer(nodes: usize, flows: usize, records: &[u8], steps: &[u8]) -> Answer
+    requires { ⌜ (flows ≤ mostFlows) × (recordBytes * flows ≤ length (now records)) ⌝ }
+    requires { ⌜ stepBytes * sumTo (λ i. field (now records) i 4) flows ≤ length (now steps) ⌝ }
+    ensures { λ r. ⌜ r ≡ code8 (factsIn nodes flows [] (now (records .entry)) (now (steps .entry))) ⌝ }
+{
+    if counts_agree(nodes, flows, records, steps) {
+        return Answer::done(0);
+    }
+    searched_answer(nodes, flows, records, steps)
 }

@@ -1,0 +1,40 @@
+-- `book::at_once::is_off` meets its contract: two steps are the same if their numbers are. Assumes nothing.
+use mathlib.Core.Path.{refl}
+use Rattle.trade.specs.Codes.{repeats, goesOn}
+use Rattle.book.specs.Steps.{misplaced, unjoined, off}
+use Rattle.book.proofs.Counts.{both-equal}
+use borrow.Author.Needs.{needs}
+use Rattle.book.proofs.at_once.is_off.Statement.{statement}
+use Rattle.book.proofs.at_once.is_off.Tie as tie
+use Rattle.book.proofs.at_once.is_off.Reads as reads
+use Rattle.book.proofs.at_once.is_off.Lts as lts
+use Rattle.book.proofs.at_once.both_at.Reads as both-at-reads
+
+-- src/at_once.rt:44:9
+both-at-requires : tie.Need-both-at-requires
+both-at-requires c κs = search needs
+
+-- src/at_once.rt:45:33
+sub-both-at : tie.Need-sub-both-at
+sub-both-at c = search needs
+
+-- src/at_once.rt:45:9
+both-at-requires-2 : tie.Need-both-at-requires-2
+both-at-requires-2 c κs = search needs
+
+-- src/at_once.rt:40:1
+returns : tie.Need-returns
+unfolding off misplaced unjoined repeats goesOn
+returns c =
+    let step = c .before .both-at .ensures in
+    let before = c .both-at2 .ensures in
+    rw (
+      both-equal (c .before .both-at .result) (c .both-at2 .result),
+      step .0,
+      step .1,
+      before .0,
+      before .1,
+    ) refl
+
+pub is-off-spec : {M : Type 1} → statement M
+is-off-spec = tie.close (tie.spec both-at-requires sub-both-at both-at-requires-2 returns)

@@ -1,5 +1,6 @@
 // The records of a book or a table: ten bytes for each flow, highest priority first.
 ghost use mathlib.Core.Path.{_≡_};
+ghost use mathlib.Core.Bool.{false};
 ghost use mathlib.Core.List.{[]};
 ghost use Prim.Native.Nat.{_+_, _*_, _≤_, _<_};
 ghost use lib.Dec.{eqb};
@@ -80,24 +81,40 @@ pub fn is_misfit(f: Flow) -> bool
         | is_outside(1, Plan::MOST as u16, f.len)
 }
 
-// Whether record i is one that code 6 refuses.
-fn is_bad_record(records: &[u8], i: usize) -> bool
+// The same, searched only if some earlier id has been met that is like it.
+fn is_repeat(records: &[u8], i: usize, met: bool) -> bool
     requires { ⌜ recordBytes * i + recordBytes ≤ length (now records) ⌝ }
-    ensures { λ r. ⌜ r ≡ badRecord (factsIn 0 0 [] (now (records .entry)) []) i ⌝ }
+    requires { ⌜ (met ≡ false → some (λ j. eqb (field (now records) j 0) (field (now records) i 0)) i ≡ false) ⌝ }
+    ensures { λ r. ⌜ r ≡ some (λ j. eqb (field (now (records .entry)) j 0) (field (now (records .entry)) i 0)) i ⌝ }
 {
-    is_misfit(record_at(records, i)) | id_before(records, i)
+    if met {
+        return id_before(records, i);
+    }
+    false
 }
 
-// Code 6, at the first bad record.
+// Whether record i is one that code 6 refuses. Where no earlier id is like its own there is no search for it.
+fn is_bad_record(records: &[u8], i: usize, met: bool) -> bool
+    requires { ⌜ recordBytes * i + recordBytes ≤ length (now records) ⌝ }
+    requires { ⌜ (met ≡ false → some (λ j. eqb (field (now records) j 0) (field (now records) i 0)) i ≡ false) ⌝ }
+    ensures { λ r. ⌜ r ≡ badRecord (factsIn 0 0 [] (now (records .entry)) []) i ⌝ }
+{
+    is_misfit(record_at(records, i)) | is_repeat(records, i, met)
+}
+
+// Code 6, at the first bad record. The lower bytes of the ids met are marked.
 pub fn records_answer(flows: usize, records: &[u8]) -> Answer
     requires { ⌜ recordBytes * flows ≤ length (now records) ⌝ }
     ensures { λ r. ⌜ r ≡ code6 (factsIn 0 flows [] (now (records .entry)) []) ⌝ }
 {
+    let mut met = [0u8; 256];
     let mut i = 0;
     while i < flows {
-        if is_bad_record(records, i) {
+        let low = (id_at(records, i) % 256) as usize;
+        if is_bad_record(records, i, met[low] == 1) {
             return Answer::refused(6, i as u64);
         }
+        met[low] = 1;
         i += 1;
     }
     Answer::done(0)

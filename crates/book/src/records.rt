@@ -10,6 +10,7 @@ ghost use Rattle.trade.specs.First.{some, sumTo};
 ghost use Rattle.trade.specs.Layout.{field};
 ghost use Rattle.trade.specs.Facts.{factsIn, flowIn};
 ghost use Rattle.book.specs.Records.{misfit};
+ghost use Rattle.trade.specs.Answers.{done};
 ghost use Rattle.trade.specs.Codes.{outside, badRecord, code6};
 use crate::numbers::word_at;
 use trade::Answer;
@@ -99,23 +100,50 @@ fn is_bad_record(records: &[u8], i: usize, met: bool) -> bool
     requires { ⌜ (met ≡ false → some (λ j. eqb (field (now records) j 0) (field (now records) i 0)) i ≡ false) ⌝ }
     ensures { λ r. ⌜ r ≡ badRecord (factsIn 0 0 [] (now (records .entry)) []) i ⌝ }
 {
-    is_misfit(record_at(records, i)) | is_repeat(records, i, met)
+    let repeat = is_repeat(records, i, met);
+    is_misfit(record_at(records, i)) | repeat
 }
 
-// Code 6, at the first bad record. The lower bytes of the ids met are marked.
+// Whether some record is bad, with no branch on what its fields say. The lower bytes of the ids met are marked. No record is bad if
+// not; if so they are to be searched.
+fn has_bad_record(flows: usize, records: &[u8]) -> bool
+    requires { ⌜ recordBytes * flows ≤ length (now records) ⌝ }
+    ensures { λ r. ⌜ (r ≡ false → code6 (factsIn 0 flows [] (now (records .entry)) []) ≡ done 0) ⌝ }
+{
+    let mut met = [0u8; 256];
+    let mut bad = false;
+    let mut i = 0;
+    while i < flows {
+        let low = (id_at(records, i) % 256) as usize;
+        bad = bad | is_bad_record(records, i, met[low] == 1);
+        met[low] = 1;
+        i += 1;
+    }
+    bad
+}
+
+// Code 6 by a search through the records.
+fn searched_records(flows: usize, records: &[u8]) -> Answer
+    requires { ⌜ recordBytes * flows ≤ length (now records) ⌝ }
+    ensures { λ r. ⌜ r ≡ code6 (factsIn 0 flows [] (now (records .entry)) []) ⌝ }
+{
+    let mut i = 0;
+    while i < flows {
+        if is_bad_record(records, i, true) {
+            return Answer::refused(6, i as u64);
+        }
+        i += 1;
+    }
+    Answer::done(0)
+}
+
+// Code 6, at the first bad record.
 pub fn records_answer(flows: usize, records: &[u8]) -> Answer
     requires { ⌜ recordBytes * flows ≤ length (now records) ⌝ }
     ensures { λ r. ⌜ r ≡ code6 (factsIn 0 flows [] (now (records .entry)) []) ⌝ }
 {
-    let mut met = [0u8; 256];
-    let mut i = 0;
-    while i < flows {
-        let low = (id_at(records, i) % 256) as usize;
-        if is_bad_record(records, i, met[low] == 1) {
-            return Answer::refused(6, i as u64);
-        }
-        met[low] = 1;
-        i += 1;
+    if has_bad_record(flows, records) {
+        return searched_records(flows, records);
     }
     Answer::done(0)
 }

@@ -1,130 +1,36 @@
--- `book::records::records_answer` meets its contract: no record before i is bad, and the lower bytes of their ids are marked. Assumes
+-- `book::records::records_answer` meets its contract: no record is bad if none is found at once, and if one is a search tells. Assumes
 -- nothing.
-use Prim.Native.Nat.{ℕ, _≤_, _<_, _-_, _%_}
-use mathlib.Core.Path.{_≡_, refl, _∙_, sym}
-use mathlib.Core.Bool.{false}
-use mathlib.Core.List.{[]}
-use borrow.Author.Count.{below-more}
-use denote.Ref.{now}
-use native.Mathlib.Omega.{arith}
-use lib.ListN.{length, getD, length-set}
-use Rattle.trade.specs.Layout.{field}
-use Rattle.trade.specs.Facts.{factsIn, factsOf}
-use Rattle.trade.specs.Codes.{badRecord, code6}
-use Rattle.trade.proofs.Answers.{givenFirst-at, givenFirst-none}
-use Rattle.book.proofs.BadRecord.{unmet, mark-more}
+use mathlib.Core.Path.{_∙_, sym}
+use borrow.Author.Needs.{needs}
 use Rattle.book.proofs.records.records_answer.Statement.{statement}
 use Rattle.book.proofs.records.records_answer.Tie as tie
 use Rattle.book.proofs.records.records_answer.Reads as reads
 use Rattle.book.proofs.records.records_answer.Lts as lts
-use Rattle.book.proofs.records.id_at.Reads as id-at-reads
-use Rattle.book.proofs.records.is_bad_record.Reads as is-bad-record-reads
+use Rattle.book.proofs.records.has_bad_record.Reads as has-bad-record-reads
+use Rattle.book.proofs.records.searched_records.Reads as searched-records-reads
 use Rattle.trade.proofs.answer.Answer.done.Reads as done-reads
-use Rattle.trade.proofs.answer.Answer.refused.Reads as refused-reads
 
-abbrev Inv-loop : tie.InvT-loop
-Inv-loop flows records met₀ i₀ met i =
-    (i ≤ flows)
-    × ((k : ℕ) → k < i → badRecord (factsIn 0 0 [] records []) k ≡ false)
-    × ((k : ℕ) → k < i → getD met (field records k 0 % 256) 0 ≡ 1)
-    × (length met ≡ 256)
+-- src/records.rt:145:8
+has-bad-record-requires : tie.Need-has-bad-record-requires
+has-bad-record-requires c κs = search needs
 
-abbrev μ-loop : tie.MeasureT-loop
-μ-loop flows records met₀ i₀ met i = flows - i
+-- src/records.rt:146:9
+searched-records-requires : tie.Need-searched-records-requires
+searched-records-requires c κs = search needs
 
--- src/records.rt:112:5
-loop-holds : tie.Need-loop-holds Inv-loop μ-loop
-loop-holds c = (omega arith, λ k h. absurd (omega arith), λ k h. absurd (omega arith), refl)
+-- src/records.rt:146:9
+returns : tie.Need-returns
+returns c = search needs
 
--- src/records.rt:113:20
-id-at-requires : tie.Need-id-at-requires Inv-loop μ-loop
-id-at-requires c κs = omega arith
+-- src/records.rt:148:5
+done-requires : tie.Need-done-requires
+done-requires c κs = search needs
 
--- src/records.rt:113:19
-cast-low : tie.Need-cast-low Inv-loop μ-loop
-cast-low c = omega arith
-
--- src/records.rt:114:38
-array-read-is-bad-record : tie.Need-array-read-is-bad-record Inv-loop μ-loop
-array-read-is-bad-record c = omega arith
-
--- src/records.rt:114:12
-is-bad-record-requires : tie.Need-is-bad-record-requires Inv-loop μ-loop
-is-bad-record-requires c κs =
-    let loop = c .before .before .loop in
-    let records = now (c .before .before .before .before .args .records) in (
-      omega arith,
-      λ e. unmet (loop .met) records (loop .i) (loop .inv .2) (rw (c .id-at .ensures) at e),
-    )
-
--- src/records.rt:115:13
-refused-requires : tie.Need-refused-requires Inv-loop μ-loop
-refused-requires c κs = tt
-
--- src/records.rt:115:13
-returns : tie.Need-returns Inv-loop μ-loop
-unfolding code6 factsOf badRecord
-returns c =
-    let a = c .before .before .before .before .before .before .before .args in
-    let loop = c .before .before .before .before .before .loop in
-    c .refused .ensures
-    ∙ sym
-    (givenFirst-at 6 (badRecord (factsIn 0 0 [] (now (a .records)) [])) (a .flows) (loop .i) (omega arith) (loop .inv .1)
-    (sym (c .before .before .is-bad-record .ensures) ∙ c .before .if1 .taken))
-
--- src/records.rt:117:9
-array-write-met : tie.Need-array-write-met Inv-loop μ-loop
-array-write-met c = omega arith
-
--- src/records.rt:118:9
-add-i : tie.Need-add-i Inv-loop μ-loop
-add-i c = omega arith
-
--- src/records.rt:112:5
-loop-less : tie.Need-loop-less Inv-loop μ-loop
-loop-less c = omega arith
-
--- src/records.rt:112:5
-loop-again : tie.Need-loop-again Inv-loop μ-loop
-loop-again c =
-    let records = now (c .before .before .before .before .before .before .args .records) in
-    let loop = c .before .before .before .before .loop in (
-      omega arith,
-      below-more _ _ (loop .inv .1) (sym (c .before .is-bad-record .ensures) ∙ c .if1 .left),
-      rw (c .before .before .id-at .ensures) (mark-more (loop .met) records (loop .i) (loop .inv .3) (loop .inv .2)),
-      length-set (loop .met) (c .before .before .id-at .result % 256) 1 ∙ loop .inv .3,
-    )
-
--- src/records.rt:120:5
-done-requires : tie.Need-done-requires Inv-loop μ-loop
-done-requires c κs = tt
-
--- src/records.rt:106:1
-returns-2 : tie.Need-returns-2 Inv-loop μ-loop
-unfolding code6 factsOf badRecord
-returns-2 c =
-    let a = c .before .before .before .before .args in
-    c .done .ensures
-    ∙ sym
-    (givenFirst-none 6 (badRecord (factsIn 0 0 [] (now (a .records)) [])) (a .flows)
-    (λ k h. c .before .before .loop .inv .1 k (omega arith)))
+-- src/records.rt:141:1
+returns-2 : tie.Need-returns-2
+returns-2 c = c .done .ensures ∙ sym (c .before .before .has-bad-record .ensures (c .before .if1 .left))
 
 pub records-answer-spec : {M : Type 1} → statement M
 records-answer-spec =
     tie.close
-    (tie.spec
-    Inv-loop
-    μ-loop
-    loop-holds
-    id-at-requires
-    cast-low
-    array-read-is-bad-record
-    is-bad-record-requires
-    refused-requires
-    returns
-    array-write-met
-    add-i
-    loop-less
-    loop-again
-    done-requires
-    returns-2)
+    (tie.spec has-bad-record-requires searched-records-requires returns done-requires returns-2)

@@ -21,14 +21,18 @@ unjoined t before = not (repeats t before || goesOn t before)
 unfoldable pub badInPlan : ℕ → List ℕ → ℕ → Bool
 badInPlan n plan j = misplaced n (stepIn plan j) || not (eqb j 0) && unjoined (stepIn plan j) (stepIn plan (j - 1))
 
--- step k of all is bad by itself, or does not follow on from the step before, whichever plan that is of
-unfoldable pub off : ℕ → List ℕ → ℕ → Bool
-off n steps k = misplaced n (stepIn steps k) || unjoined (stepIn steps k) (stepIn steps (k - 1))
+-- a step that goes to its own sender
+unfoldable pub own : Transmission → Bool
+own t = eqb (t .sender .0) (t .receiver .0)
+
+-- step k of all goes to its own sender, or does not follow on from the step before, whichever plan that is of
+unfoldable pub off : List ℕ → ℕ → Bool
+off steps k = own (stepIn steps k) || unjoined (stepIn steps k) (stepIn steps (k - 1))
 
 -- step k is off for no more than starting anew
-unfoldable pub fresh : ℕ → List ℕ → ℕ → Bool
-fresh n steps k = not (misplaced n (stepIn steps k)) && unjoined (stepIn steps k) (stepIn steps (k - 1))
+unfoldable pub fresh : List ℕ → ℕ → Bool
+fresh steps k = not (own (stepIn steps k)) && unjoined (stepIn steps k) (stepIn steps (k - 1))
 
 -- plan i has a first step, and that starts anew
-unfoldable pub startsAnew : ℕ → List ℕ → List ℕ → ℕ → Bool
-startsAnew n records steps i = not (eqb (field records i 4) 0) && fresh n steps (sumTo (λ h. field records h 4) i)
+unfoldable pub startsAnew : List ℕ → List ℕ → ℕ → Bool
+startsAnew records steps i = not (eqb (field records i 4) 0) && fresh steps (sumTo (λ h. field records h 4) i)

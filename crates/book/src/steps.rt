@@ -1,9 +1,9 @@
 // The steps of a book or a table: the plans in flow order with no gap, and code 8.
 ghost use mathlib.Core.Path.{_≡_};
 ghost use mathlib.Core.List.{[]};
-ghost use Prim.Native.Nat.{ℕ, _+_, _*_, _≤_, _<_};
+ghost use Prim.Native.Nat.{_+_, _*_, _≤_, _<_};
 ghost use lib.ListN.{length};
-ghost use Rattle.trade.specs.Limits.{recordBytes, stepBytes, mostFlows, mostSteps};
+ghost use Rattle.trade.specs.Limits.{recordBytes, stepBytes, mostFlows};
 ghost use Rattle.trade.specs.First.{first, sumTo};
 ghost use Rattle.trade.specs.Layout.{field};
 ghost use Rattle.trade.specs.Facts.{factsIn};
@@ -17,7 +17,7 @@ use trade::Plan;
 use trade::Transmission;
 
 // Whether a step's sender or receiver is at or above n, or the two are equal.
-pub(crate) fn is_misplaced(nodes: usize, t: Transmission) -> bool
+fn is_misplaced(nodes: usize, t: Transmission) -> bool
     ensures { λ r. ⌜ r ≡ misplaced nodes t ⌝ }
 {
     let a = t.sender.0 as usize;
@@ -26,7 +26,7 @@ pub(crate) fn is_misplaced(nodes: usize, t: Transmission) -> bool
 }
 
 // Whether a step neither repeats the one before nor starts at its receiver.
-pub(crate) fn is_unjoined(t: Transmission, before: Transmission) -> bool
+fn is_unjoined(t: Transmission, before: Transmission) -> bool
     ensures { λ r. ⌜ r ≡ unjoined t before ⌝ }
 {
     let repeats = (t.sender.0 == before.sender.0) & (t.receiver.0 == before.receiver.0);

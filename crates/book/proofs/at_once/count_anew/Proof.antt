@@ -19,14 +19,14 @@ use Rattle.book.proofs.at_once.starts_anew.Reads as starts-anew-reads
 use Rattle.book.proofs.records.len_at.Reads as len-at-reads
 
 abbrev Inv-loop : tie.InvT-loop
-Inv-loop nodes flows records steps all₀ anew₀ i₀ all anew i =
+Inv-loop flows records steps all₀ anew₀ i₀ all anew i =
     (i ≤ flows)
     × (all ≡ sumTo (λ k. field records k 4) i)
     × (anew ≤ i)
-    × (anew ≡ sumTo (λ k. one (startsAnew nodes records steps k)) i)
+    × (anew ≡ sumTo (λ k. one (startsAnew records steps k)) i)
 
 abbrev μ-loop : tie.MeasureT-loop
-μ-loop nodes flows records steps all₀ anew₀ i₀ all anew i = flows - i
+μ-loop flows records steps all₀ anew₀ i₀ all anew i = flows - i
 
 -- the plan at i lies in the steps
 room :
@@ -79,7 +79,7 @@ loop-again c =
     let a = c .before .before .before .before .before .before .before .args in
     let loop = c .before .before .before .before .loop in
     let len : ℕ → ℕ = λ k. field (now (a .records)) k 4 in
-    let f : ℕ → ℕ = λ k. one (startsAnew (a .nodes) (now (a .records)) (now (a .steps)) k) in
+    let f : ℕ → ℕ = λ k. one (startsAnew (now (a .records)) (now (a .steps)) k) in
     let more : c .counted .result ≡ f (loop .i) =
     c .counted .ensures .0
     ∙ ap one (c .before .starts-anew .ensures ∙ rw (loop .inv .1, c .before .before .len-at .ensures .0) refl) in
@@ -91,7 +91,7 @@ returns c =
     let a = c .before .before .before .before .args in
     let loop = c .before .loop in
     let e : loop .i ≡ a .flows = omega arith in
-    (loop .inv .1 ∙ ap (sumTo (λ k. field (now (a .records)) k 4)) e, loop .inv .3 ∙ ap (sumTo (λ k. one (startsAnew (a .nodes) (now (a .records)) (now (a .steps)) k))) e)
+    (loop .inv .1 ∙ ap (sumTo (λ k. field (now (a .records)) k 4)) e, loop .inv .3 ∙ ap (sumTo (λ k. one (startsAnew (now (a .records)) (now (a .steps)) k))) e)
 
 pub count-anew-spec : {M : Type 1} → statement M
 count-anew-spec =

@@ -1,85 +1,83 @@
 -- `book::at_once::count_off` meets its contract: it has counted the steps before k. Assumes nothing.
-use Prim.Native.Nat.{ℕ, _≤_, _-_}
-use mathlib.Core.Path.{_≡_, sym, _∙_, ap}
+use Prim.Native.Nat.{ℕ, _≤_, _-_, _/_, _%_}
+use mathlib.Core.Path.{_≡_, refl, sym, _∙_, ap}
 use denote.Ref.{now}
 use native.Mathlib.Omega.{arith}
+use lib.Dec.{eqb}
 use Rattle.trade.specs.First.{sumTo}
+use Rattle.trade.specs.Facts.{stepIn}
 use Rattle.trade.specs.Interference.{one}
-use Rattle.book.specs.Steps.{misplaced, off}
+use Rattle.book.specs.Steps.{own, off}
 use Rattle.book.proofs.Counts.{off-alone, sum-none, sum-more}
 use Rattle.book.proofs.at_once.count_off.Statement.{statement}
 use Rattle.book.proofs.at_once.count_off.Tie as tie
 use Rattle.book.proofs.at_once.count_off.Reads as reads
 use Rattle.book.proofs.at_once.count_off.Lts as lts
+use Rattle.book.proofs.at_once.both_at.Reads as both-at-reads
 use Rattle.book.proofs.at_once.counted.Reads as counted-reads
 use Rattle.book.proofs.at_once.is_off.Reads as is-off-reads
-use Rattle.book.proofs.steps.is_misplaced.Reads as is-misplaced-reads
-use Rattle.plans.proofs.steps.step_at.Reads as step-at-reads
 
 abbrev Inv-loop : tie.InvT-loop
-Inv-loop nodes steps all count₀ k₀ count k =
-    (1 ≤ k) × (k ≤ all) × (count ≤ k) × (count ≡ sumTo (λ j. one (off nodes steps j)) k)
+Inv-loop steps all first count₀ k₀ count k =
+    (1 ≤ k) × (k ≤ all) × (count ≤ k) × (count ≡ sumTo (λ j. one (off steps j)) k)
 
 abbrev μ-loop : tie.MeasureT-loop
-μ-loop nodes steps all count₀ k₀ count k = all - k
+μ-loop steps all first count₀ k₀ count k = all - k
 
--- src/at_once.rt:65:58
-step-at-requires : tie.Need-step-at-requires Inv-loop μ-loop
-step-at-requires c κs = omega arith
+-- src/at_once.rt:62:9
+both-at-requires : tie.Need-both-at-requires Inv-loop μ-loop
+both-at-requires c κs = omega arith
 
--- src/at_once.rt:65:29
-is-misplaced-requires : tie.Need-is-misplaced-requires Inv-loop μ-loop
-is-misplaced-requires c κs = tt
-
--- src/at_once.rt:65:9
+-- src/at_once.rt:63:9
 counted-requires : tie.Need-counted-requires Inv-loop μ-loop
 counted-requires c κs = tt
 
--- src/at_once.rt:67:5
+-- src/at_once.rt:65:5
 loop-holds : tie.Need-loop-holds Inv-loop μ-loop
+unfolding own
 loop-holds c =
-    let a = c .before .before .before .before .args in
-    let f : ℕ → ℕ = λ j. one (off (a .nodes) (now (a .steps)) j) in
-    let first : c .counted .result ≡ f 0 =
-    c .counted .ensures .0
-    ∙ ap one (c .before .is-misplaced .ensures ∙ ap (misplaced (a .nodes)) (c .before .before .step-at .ensures) ∙ sym (off-alone (a .nodes) (now (a .steps)))) in
+    let steps = now (c .before .before .before .args .steps) in
+    let f : ℕ → ℕ = λ j. one (off steps j) in
+    let first = c .before .both-at .result in
+    let alone : eqb (first % 256) (first / 256) ≡ own (stepIn steps 0) =
+    rw (c .before .both-at .ensures .0, c .before .both-at .ensures .1) refl in
+    let start : c .counted .result ≡ f 0 = c .counted .ensures .0 ∙ ap one (alone ∙ sym (off-alone steps)) in
     (omega arith, omega arith, omega arith, omega (arith, sum-more f 0, sum-none f))
 
--- src/at_once.rt:68:26
+-- src/at_once.rt:66:26
 is-off-requires : tie.Need-is-off-requires Inv-loop μ-loop
 is-off-requires c κs = (omega arith, omega arith)
 
--- src/at_once.rt:68:18
+-- src/at_once.rt:66:18
 counted-requires-2 : tie.Need-counted-requires-2 Inv-loop μ-loop
 counted-requires-2 c κs = tt
 
--- src/at_once.rt:68:9
+-- src/at_once.rt:66:9
 add-count : tie.Need-add-count Inv-loop μ-loop
 add-count c = omega arith
 
--- src/at_once.rt:69:9
+-- src/at_once.rt:67:9
 add-k : tie.Need-add-k Inv-loop μ-loop
 add-k c = omega arith
 
--- src/at_once.rt:67:5
+-- src/at_once.rt:65:5
 loop-less : tie.Need-loop-less Inv-loop μ-loop
 loop-less c = omega arith
 
--- src/at_once.rt:67:5
+-- src/at_once.rt:65:5
 loop-again : tie.Need-loop-again Inv-loop μ-loop
 loop-again c =
-    let a = c .before .before .before .before .before .before .before .before .args in
+    let steps = now (c .before .before .before .before .before .before .before .args .steps) in
     let loop = c .before .before .before .loop in
-    let f : ℕ → ℕ = λ j. one (off (a .nodes) (now (a .steps)) j) in
+    let f : ℕ → ℕ = λ j. one (off steps j) in
     let more : c .counted2 .result ≡ f (loop .k) = c .counted2 .ensures .0 ∙ ap one (c .before .is-off .ensures) in
     (omega arith, omega arith, omega arith, omega (arith, sum-more f (loop .k)))
 
--- src/at_once.rt:61:1
+-- src/at_once.rt:58:1
 returns : tie.Need-returns Inv-loop μ-loop
 returns c =
-    let a = c .before .before .before .before .before .before .args in
-    let loop = c .before .loop in
-    loop .inv .3 ∙ ap (sumTo (λ j. one (off (a .nodes) (now (a .steps)) j))) (omega arith)
+    let steps = now (c .before .before .before .before .before .args .steps) in
+    c .before .loop .inv .3 ∙ ap (sumTo (λ j. one (off steps j))) (omega arith)
 
 pub count-off-spec : {M : Type 1} → statement M
 count-off-spec =
@@ -87,8 +85,7 @@ count-off-spec =
     (tie.spec
     Inv-loop
     μ-loop
-    step-at-requires
-    is-misplaced-requires
+    both-at-requires
     counted-requires
     loop-holds
     is-off-requires

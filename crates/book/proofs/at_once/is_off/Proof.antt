@@ -1,7 +1,7 @@
 -- `book::at_once::is_off` meets its contract: two steps are the same if their numbers are. Assumes nothing.
 use mathlib.Core.Path.{refl}
 use Rattle.trade.specs.Codes.{repeats, goesOn}
-use Rattle.book.specs.Steps.{misplaced, unjoined, off}
+use Rattle.book.specs.Steps.{unjoined, own, off}
 use Rattle.book.proofs.Counts.{both-equal}
 use borrow.Author.Needs.{needs}
 use Rattle.book.proofs.at_once.is_off.Statement.{statement}
@@ -24,7 +24,7 @@ both-at-requires-2 c κs = search needs
 
 -- src/at_once.rt:40:1
 returns : tie.Need-returns
-unfolding off misplaced unjoined repeats goesOn
+unfolding off own unjoined repeats goesOn
 returns c =
     let step = c .before .both-at .ensures in
     let before = c .both-at2 .ensures in

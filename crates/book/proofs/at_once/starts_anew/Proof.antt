@@ -4,64 +4,50 @@ use mathlib.Core.Path.{_≡_, refl}
 use mathlib.Core.Logic.{⊎-elim}
 use native.Mathlib.Omega.{arith}
 use borrow.Author.Tests.{eq-eqb, ne-eqb}
-use Rattle.book.specs.Steps.{fresh}
+use Rattle.trade.specs.Codes.{repeats, goesOn}
+use Rattle.book.specs.Steps.{unjoined, own, fresh}
+use Rattle.book.proofs.Counts.{both-equal}
 use borrow.Author.Needs.{needs}
 use Rattle.book.proofs.at_once.starts_anew.Statement.{statement}
 use Rattle.book.proofs.at_once.starts_anew.Tie as tie
 use Rattle.book.proofs.at_once.starts_anew.Reads as reads
 use Rattle.book.proofs.at_once.starts_anew.Lts as lts
-use Rattle.book.proofs.steps.is_misplaced.Reads as is-misplaced-reads
-use Rattle.book.proofs.steps.is_unjoined.Reads as is-unjoined-reads
-use Rattle.plans.proofs.steps.step_at.Reads as step-at-reads
+use Rattle.book.proofs.at_once.both_at.Reads as both-at-reads
 
--- src/at_once.rt:80:9
+-- src/at_once.rt:95:9
 returns : tie.Need-returns
 returns c = rw (eq-eqb _ _ (c .if1 .taken)) refl
 
--- src/at_once.rt:82:9
-step-at-requires : tie.Need-step-at-requires
-step-at-requires c κs = search needs
+-- src/at_once.rt:97:9
+both-at-requires : tie.Need-both-at-requires
+both-at-requires c κs = search needs
 
--- src/at_once.rt:83:43
+-- src/at_once.rt:98:43
 sub-before : tie.Need-sub-before
 sub-before c = search needs
 
--- src/at_once.rt:84:6
-is-misplaced-requires : tie.Need-is-misplaced-requires
-is-misplaced-requires c κs = search needs
+-- src/at_once.rt:99:9
+both-at-requires-2 : tie.Need-both-at-requires-2
+both-at-requires-2 c κs = ⊎-elim (λ w. omega arith) (λ w. omega arith) (c .if2 .came)
 
--- src/at_once.rt:84:46
-step-at-requires-2 : tie.Need-step-at-requires-2
-step-at-requires-2 c κs = ⊎-elim (λ w. omega arith) (λ w. omega arith) (c .before .if2 .came)
-
--- src/at_once.rt:84:31
-is-unjoined-requires : tie.Need-is-unjoined-requires
-is-unjoined-requires c κs = search needs
-
--- src/at_once.rt:75:1
+-- src/at_once.rt:90:1
 returns-2 : tie.Need-returns-2
-unfolding fresh
+unfolding fresh own unjoined repeats goesOn
 returns-2 c =
-    let a = c .before .before .before .before .before .before .before .args in
-    let before : c .before .before .before .if2 .before ≡ a .at - 1 =
-    ⊎-elim (λ w. omega arith) (λ w. omega arith) (c .before .before .before .if2 .came) in
+    let a = c .before .before .before .before .before .args in
+    let before : c .before .if2 .before ≡ a .at - 1 = ⊎-elim (λ w. omega arith) (λ w. omega arith) (c .before .if2 .came) in
+    let step = c .before .before .both-at .ensures in
+    let last = c .both-at2 .ensures in
     rw (
-      c .before .before .is-misplaced .ensures,
-      c .is-unjoined .ensures,
-      c .before .step-at2 .ensures,
-      c .before .before .before .before .step-at .ensures,
+      both-equal (c .before .before .both-at .result) (c .both-at2 .result),
+      step .0,
+      step .1,
+      last .0,
+      last .1,
       before,
-      ne-eqb (a .len) 0 (c .before .before .before .before .before .if1 .left),
+      ne-eqb (a .len) 0 (c .before .before .before .if1 .left),
     ) refl
 
 pub starts-anew-spec : {M : Type 1} → statement M
 starts-anew-spec =
-    tie.close
-    (tie.spec
-    returns
-    step-at-requires
-    sub-before
-    is-misplaced-requires
-    step-at-requires-2
-    is-unjoined-requires
-    returns-2)
+    tie.close (tie.spec returns both-at-requires sub-before both-at-requires-2 returns-2)

@@ -62,7 +62,7 @@ fn first_bad_step(nodes: usize, plan: &[u8], len: usize) -> usize
 }
 
 // Code 8 by a search through the plans, one after the other.
-fn searched_answer(nodes: usize, flows: usize, records: &[u8], steps: &[u8]) -> Answer
+fn searched_steps(nodes: usize, flows: usize, records: &[u8], steps: &[u8]) -> Answer
     requires { ⌜ (flows ≤ mostFlows) × (recordBytes * flows ≤ length (now records)) ⌝ }
     requires { ⌜ stepBytes * sumTo (λ i. field (now records) i 4) flows ≤ length (now steps) ⌝ }
     ensures { λ r. ⌜ r ≡ code8 (factsIn nodes flows [] (now (records .entry)) (now (steps .entry))) ⌝ }
@@ -91,5 +91,5 @@ pub fn steps_answer(nodes: usize, flows: usize, records: &[u8], steps: &[u8]) ->
     if counts_agree(nodes, flows, records, steps) {
         return Answer::done(0);
     }
-    searched_answer(nodes, flows, records, steps)
+    searched_steps(nodes, flows, records, steps)
 }

@@ -1,4 +1,4 @@
--- `book::steps::searched_answer` meets its contract: no step of the plans passed is bad. Assumes nothing.
+-- `book::steps::searched_steps` meets its contract: no step of the plans passed is bad. Assumes nothing.
 use Prim.Native.Nat.{ℕ, suc, _≤_, _<_, _+_, _-_, _*_}
 use mathlib.Core.Path.{_≡_, refl, _∙_, sym, ap, ap₂}
 use mathlib.Core.Bool.{false}
@@ -19,10 +19,10 @@ use Rattle.trade.proofs.Answers.{givenFirst-none}
 use Rattle.book.proofs.BadStep.{plan-room, bad-found, none-found}
 use Rattle.book.specs.Steps.{badInPlan}
 use Rattle.book.proofs.Words.{part-tail}
-use Rattle.book.proofs.steps.searched_answer.Statement.{statement}
-use Rattle.book.proofs.steps.searched_answer.Tie as tie
-use Rattle.book.proofs.steps.searched_answer.Reads as reads
-use Rattle.book.proofs.steps.searched_answer.Lts as lts
+use Rattle.book.proofs.steps.searched_steps.Statement.{statement}
+use Rattle.book.proofs.steps.searched_steps.Tie as tie
+use Rattle.book.proofs.steps.searched_steps.Reads as reads
+use Rattle.book.proofs.steps.searched_steps.Lts as lts
 use Rattle.book.proofs.records.len_at.Reads as len-at-reads
 use Rattle.book.proofs.steps.first_bad_step.Reads as first-bad-step-reads
 use Rattle.trade.proofs.answer.Answer.done.Reads as done-reads
@@ -160,8 +160,8 @@ returns-2 c =
     (sumTo (λ (k : ℕ). field (now (a .records)) k 4) (a .flows))
     (λ k h. loop .inv .2 k (rw (loop .inv .1, e) h)))
 
-pub searched-answer-spec : {M : Type 1} → statement M
-searched-answer-spec =
+pub searched-steps-spec : {M : Type 1} → statement M
+searched-steps-spec =
     tie.close
     (tie.spec
     Inv-loop

@@ -138,6 +138,7 @@ module _
     off-in-plan i zero l h = rw (add-zero (firstStep (factsIn n m rows records steps) i)) (omega (arith, off-first i l h))
     off-in-plan i (suc j) l h = rw (off-later i j l h) (omega (arith, off-in-plan i j l (omega arith)))
 
+    -- the same of a plan with any number of steps
     off-in-whole :
         (i : ℕ)
         → i < m
@@ -149,7 +150,7 @@ module _
     off-in-whole i l zero e = rw (eq-eqb (field records i 4) 0 (sym e)) refl
     off-in-whole i l (suc j) e = off-in-plan i j l (omega arith)
 
-    -- the same of the plans before one
+    -- and of all the plans before one
     off-before :
         (i : ℕ)
         → i ≤ m

@@ -121,7 +121,7 @@ fn count_anew(flows: usize, records: &[u8], steps: &[u8]) -> Begun
     Begun { all, anew }
 }
 
-// Whether every node is there and the two counts agree. If so no step is bad; if not they are to be searched.
+// Whether every node is there and the two counts agree. If so, code 8 is not given; if not the steps are to be searched.
 pub(crate) fn counts_agree(nodes: usize, flows: usize, records: &[u8], steps: &[u8]) -> bool
     requires { ⌜ (flows ≤ mostFlows) × (recordBytes * flows ≤ length (now records)) ⌝ }
     requires { ⌜ stepBytes * sumTo (λ i. field (now records) i 4) flows ≤ length (now steps) ⌝ }

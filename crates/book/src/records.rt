@@ -82,7 +82,7 @@ pub fn is_misfit(f: Flow) -> bool
         | is_outside(1, Plan::MOST as u16, f.len)
 }
 
-// The same, searched only if some earlier id has been met that is like it.
+// Whether an earlier record has the id of record i, searched for only if an id with its lower byte has been met.
 fn is_repeat(records: &[u8], i: usize, met: bool) -> bool
     requires { ⌜ recordBytes * i + recordBytes ≤ length (now records) ⌝ }
     requires { ⌜ (met ≡ false → some (λ j. eqb (field (now records) j 0) (field (now records) i 0)) i ≡ false) ⌝ }
@@ -94,7 +94,7 @@ fn is_repeat(records: &[u8], i: usize, met: bool) -> bool
     false
 }
 
-// Whether record i is one that code 6 refuses. Where no earlier id is like its own there is no search for it.
+// Whether record i is one that code 6 refuses.
 fn is_bad_record(records: &[u8], i: usize, met: bool) -> bool
     requires { ⌜ recordBytes * i + recordBytes ≤ length (now records) ⌝ }
     requires { ⌜ (met ≡ false → some (λ j. eqb (field (now records) j 0) (field (now records) i 0)) i ≡ false) ⌝ }
@@ -104,8 +104,8 @@ fn is_bad_record(records: &[u8], i: usize, met: bool) -> bool
     is_misfit(record_at(records, i)) | repeat
 }
 
-// Whether some record is bad, with no branch on what its fields say. The lower bytes of the ids met are marked. No record is bad if
-// not; if so they are to be searched.
+// Whether some record is bad, with no branch that a field decides, and the ids met marked by their lower bytes. If not, code 6 is not
+// given; if so the records are to be searched.
 fn has_bad_record(flows: usize, records: &[u8]) -> bool
     requires { ⌜ recordBytes * flows ≤ length (now records) ⌝ }
     ensures { λ r. ⌜ (r ≡ false → code6 (factsIn 0 flows [] (now (records .entry)) []) ≡ done 0) ⌝ }
@@ -137,7 +137,7 @@ fn searched_records(flows: usize, records: &[u8]) -> Answer
     Answer::done(0)
 }
 
-// Code 6, at the first bad record.
+// Code 6, at the first bad record. They are searched only if one is bad.
 pub fn records_answer(flows: usize, records: &[u8]) -> Answer
     requires { ⌜ recordBytes * flows ≤ length (now records) ⌝ }
     ensures { λ r. ⌜ r ≡ code6 (factsIn 0 flows [] (now (records .entry)) []) ⌝ }

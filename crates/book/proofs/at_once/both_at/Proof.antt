@@ -5,42 +5,31 @@ use Rattle.trade.specs.Facts.{stepIn}
 use borrow.Author.Needs.{needs}
 use Rattle.book.proofs.at_once.both_at.Statement.{statement}
 use Rattle.book.proofs.at_once.both_at.Tie as tie
-use Rattle.book.proofs.at_once.both_at.Reads as reads
-use Rattle.book.proofs.at_once.both_at.Lts as lts
 
--- src/at_once.rt:35:14
 mul-at : tie.Need-mul-at
 mul-at c = search needs
 
--- src/at_once.rt:36:12
 add-result : tie.Need-add-result
 add-result c = search needs
 
--- src/at_once.rt:36:6
 shared-slice-read-result : tie.Need-shared-slice-read-result
 shared-slice-read-result c = search needs
 
--- src/at_once.rt:36:6
 cast-result : tie.Need-cast-result
 cast-result c = omega (arith, c .shared-slice-known .given (2 * c .before .args .k + 1))
 
--- src/at_once.rt:36:5
 mul-result : tie.Need-mul-result
 mul-result c = omega (arith, c .shared-slice-known .given (2 * c .before .args .k + 1))
 
--- src/at_once.rt:36:37
 shared-slice-read-result-2 : tie.Need-shared-slice-read-result-2
 shared-slice-read-result-2 c = search needs
 
--- src/at_once.rt:36:37
 cast-result-2 : tie.Need-cast-result-2
 cast-result-2 c = omega (arith, c .shared-slice-known2 .given (2 * c .before .before .args .k))
 
--- src/at_once.rt:36:5
 add-result-2 : tie.Need-add-result-2
 add-result-2 c = omega (arith, c .before .shared-slice-known .given (2 * c .before .before .args .k + 1), c .shared-slice-known2 .given (2 * c .before .before .args .k))
 
--- src/at_once.rt:31:1
 returns : tie.Need-returns
 unfolding stepIn
 returns c = (omega (arith, c .shared-slice-known2 .given (2 * c .before .before .args .k)), omega (arith, c .shared-slice-known2 .given (2 * c .before .before .args .k)))

@@ -12,11 +12,6 @@ use Rattle.book.proofs.BadStep.{plan-room}
 use Rattle.book.proofs.Counts.{sum-more}
 use Rattle.book.proofs.at_once.count_anew.Statement.{statement}
 use Rattle.book.proofs.at_once.count_anew.Tie as tie
-use Rattle.book.proofs.at_once.count_anew.Reads as reads
-use Rattle.book.proofs.at_once.count_anew.Lts as lts
-use Rattle.book.proofs.at_once.counted.Reads as counted-reads
-use Rattle.book.proofs.at_once.starts_anew.Reads as starts-anew-reads
-use Rattle.book.proofs.records.len_at.Reads as len-at-reads
 
 abbrev Inv-loop : tie.InvT-loop
 Inv-loop flows records steps all₀ anew₀ i₀ all anew i =
@@ -39,40 +34,31 @@ room c =
     plan-room (now (a .records)) (a .flows) i (length (now (a .steps))) (omega arith) (c .before .before .before .before .before .pre .1) in
     rw (c .before .before .loop .inv .1, c .len-at .ensures .0) h
 
--- src/at_once.rt:97:5
 loop-holds : tie.Need-loop-holds Inv-loop μ-loop
 unfolding sumTo
 loop-holds c = (omega arith, refl, omega arith, refl)
 
--- src/at_once.rt:98:13
 len-at-requires : tie.Need-len-at-requires Inv-loop μ-loop
 len-at-requires c κs = omega arith
 
--- src/at_once.rt:99:25
 starts-anew-requires : tie.Need-starts-anew-requires Inv-loop μ-loop
 starts-anew-requires c κs = room c
 
--- src/at_once.rt:99:17
 counted-requires : tie.Need-counted-requires Inv-loop μ-loop
 counted-requires c κs = tt
 
--- src/at_once.rt:99:9
 add-anew : tie.Need-add-anew Inv-loop μ-loop
 add-anew c = omega arith
 
--- src/at_once.rt:100:9
 add-all : tie.Need-add-all Inv-loop μ-loop
 add-all c = omega (arith, room (c .before .before))
 
--- src/at_once.rt:101:9
 add-i : tie.Need-add-i Inv-loop μ-loop
 add-i c = omega arith
 
--- src/at_once.rt:97:5
 loop-less : tie.Need-loop-less Inv-loop μ-loop
 loop-less c = omega arith
 
--- src/at_once.rt:97:5
 loop-again : tie.Need-loop-again Inv-loop μ-loop
 unfolding startsAnew
 loop-again c =
@@ -85,7 +71,6 @@ loop-again c =
     ∙ ap one (c .before .starts-anew .ensures ∙ rw (loop .inv .1, c .before .before .len-at .ensures .0) refl) in
     (omega arith, omega (arith, sum-more len (loop .i), c .before .before .len-at .ensures .0), omega arith, omega (arith, sum-more f (loop .i)))
 
--- src/at_once.rt:88:1
 returns : tie.Need-returns Inv-loop μ-loop
 returns c =
     let a = c .before .before .before .before .args in

@@ -11,11 +11,6 @@ use Rattle.book.specs.Steps.{own, off}
 use Rattle.book.proofs.Counts.{off-alone, sum-none, sum-more}
 use Rattle.book.proofs.at_once.count_off.Statement.{statement}
 use Rattle.book.proofs.at_once.count_off.Tie as tie
-use Rattle.book.proofs.at_once.count_off.Reads as reads
-use Rattle.book.proofs.at_once.count_off.Lts as lts
-use Rattle.book.proofs.at_once.both_at.Reads as both-at-reads
-use Rattle.book.proofs.at_once.counted.Reads as counted-reads
-use Rattle.book.proofs.at_once.is_off.Reads as is-off-reads
 
 abbrev Inv-loop : tie.InvT-loop
 Inv-loop steps all first count₀ k₀ count k =
@@ -24,15 +19,12 @@ Inv-loop steps all first count₀ k₀ count k =
 abbrev μ-loop : tie.MeasureT-loop
 μ-loop steps all first count₀ k₀ count k = all - k
 
--- src/at_once.rt:62:9
 both-at-requires : tie.Need-both-at-requires Inv-loop μ-loop
 both-at-requires c κs = omega arith
 
--- src/at_once.rt:63:9
 counted-requires : tie.Need-counted-requires Inv-loop μ-loop
 counted-requires c κs = tt
 
--- src/at_once.rt:65:5
 loop-holds : tie.Need-loop-holds Inv-loop μ-loop
 unfolding own
 loop-holds c =
@@ -44,27 +36,21 @@ loop-holds c =
     let start : c .counted .result ≡ f 0 = c .counted .ensures .0 ∙ ap one (alone ∙ sym (off-alone steps)) in
     (omega arith, omega arith, omega arith, omega (arith, sum-more f 0, sum-none f))
 
--- src/at_once.rt:66:26
 is-off-requires : tie.Need-is-off-requires Inv-loop μ-loop
 is-off-requires c κs = (omega arith, omega arith)
 
--- src/at_once.rt:66:18
 counted-requires-2 : tie.Need-counted-requires-2 Inv-loop μ-loop
 counted-requires-2 c κs = tt
 
--- src/at_once.rt:66:9
 add-count : tie.Need-add-count Inv-loop μ-loop
 add-count c = omega arith
 
--- src/at_once.rt:67:9
 add-k : tie.Need-add-k Inv-loop μ-loop
 add-k c = omega arith
 
--- src/at_once.rt:65:5
 loop-less : tie.Need-loop-less Inv-loop μ-loop
 loop-less c = omega arith
 
--- src/at_once.rt:65:5
 loop-again : tie.Need-loop-again Inv-loop μ-loop
 loop-again c =
     let steps = now (c .before .before .before .before .before .before .before .args .steps) in
@@ -73,7 +59,6 @@ loop-again c =
     let more : c .counted2 .result ≡ f (loop .k) = c .counted2 .ensures .0 ∙ ap one (c .before .is-off .ensures) in
     (omega arith, omega arith, omega arith, omega (arith, sum-more f (loop .k)))
 
--- src/at_once.rt:58:1
 returns : tie.Need-returns Inv-loop μ-loop
 returns c =
     let steps = now (c .before .before .before .before .before .args .steps) in

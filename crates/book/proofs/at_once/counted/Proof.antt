@@ -4,15 +4,11 @@ use native.Mathlib.Omega.{arith}
 use Rattle.trade.specs.Interference.{one}
 use Rattle.book.proofs.at_once.counted.Statement.{statement}
 use Rattle.book.proofs.at_once.counted.Tie as tie
-use Rattle.book.proofs.at_once.counted.Reads as reads
-use Rattle.book.proofs.at_once.counted.Lts as lts
 
--- src/at_once.rt:54:1
 returns : tie.Need-returns
 unfolding one
 returns c = (rw (c .if1 .taken) refl, omega arith)
 
--- src/at_once.rt:54:1
 returns-2 : tie.Need-returns-2
 unfolding one
 returns-2 c = (rw (c .if1 .left) refl, omega arith)

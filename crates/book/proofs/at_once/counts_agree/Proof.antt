@@ -14,17 +14,10 @@ use Rattle.book.proofs.Counts.{none-bad}
 use borrow.Author.Needs.{needs}
 use Rattle.book.proofs.at_once.counts_agree.Statement.{statement}
 use Rattle.book.proofs.at_once.counts_agree.Tie as tie
-use Rattle.book.proofs.at_once.counts_agree.Reads as reads
-use Rattle.book.proofs.at_once.counts_agree.Lts as lts
-use Rattle.book.proofs.at_once.count_anew.Reads as count-anew-reads
-use Rattle.book.proofs.at_once.count_off.Reads as count-off-reads
-use Rattle.book.proofs.at_once.highest.Reads as highest-reads
 
--- src/at_once.rt:130:9
 count-anew-requires : tie.Need-count-anew-requires
 count-anew-requires c κs = search needs
 
--- src/at_once.rt:132:21
 mul-if1 : tie.Need-mul-if1
 mul-if1 c = search needs
 
@@ -37,23 +30,18 @@ within c =
     let p = or-false (ltb all 1) (ltb (mostFlows * mostSteps) all) (c .if1 .left) in
     (ltb-false all 1 (p .0), ltb-false (mostFlows * mostSteps) all (p .1))
 
--- src/at_once.rt:133:9
 returns : tie.Need-returns
 returns c = λ e. absurd (not-both e refl)
 
--- src/at_once.rt:135:34
 mul-highest : tie.Need-mul-highest
 mul-highest c = search needs
 
--- src/at_once.rt:135:19
 highest-requires : tie.Need-highest-requires
 highest-requires c κs = search needs
 
--- src/at_once.rt:135:19
 cast-inside : tie.Need-cast-inside
 cast-inside c = search needs
 
--- src/at_once.rt:136:15
 count-off-requires : tie.Need-count-off-requires
 count-off-requires c κs = (
   within (c .before) .0,
@@ -61,7 +49,6 @@ count-off-requires c κs = (
   rw (c .before .before .count-anew .ensures .0) (c .before .before .before .before .before .pre .1),
 )
 
--- src/at_once.rt:125:1
 returns-2 : tie.Need-returns-2
 returns-2 c =
     λ e.

@@ -6,8 +6,6 @@ use native.Mathlib.Omega.{arith}
 use Rattle.trade.specs.Bytes.{byte}
 use Rattle.book.proofs.at_once.highest.Statement.{statement}
 use Rattle.book.proofs.at_once.highest.Tie as tie
-use Rattle.book.proofs.at_once.highest.Reads as reads
-use Rattle.book.proofs.at_once.highest.Lts as lts
 
 abbrev Inv-loop : tie.InvT-loop
 Inv-loop bytes count most₀ k₀ most k = (k ≤ count) × ((j : ℕ) → j < k → byte bytes j ≤ most)
@@ -15,23 +13,18 @@ Inv-loop bytes count most₀ k₀ most k = (k ≤ count) × ((j : ℕ) → j < k
 abbrev μ-loop : tie.MeasureT-loop
 μ-loop bytes count most₀ k₀ most k = count - k
 
--- src/at_once.rt:79:5
 loop-holds : tie.Need-loop-holds Inv-loop μ-loop
 loop-holds c = (omega arith, λ j h. absurd (omega arith))
 
--- src/at_once.rt:80:17
 shared-slice-read-b : tie.Need-shared-slice-read-b Inv-loop μ-loop
 shared-slice-read-b c = omega arith
 
--- src/at_once.rt:84:9
 add-k : tie.Need-add-k Inv-loop μ-loop
 add-k c = omega arith
 
--- src/at_once.rt:79:5
 loop-less : tie.Need-loop-less Inv-loop μ-loop
 loop-less c = omega arith
 
--- src/at_once.rt:79:5
 loop-again : tie.Need-loop-again Inv-loop μ-loop
 loop-again c =
     let loop = c .before .before .before .loop in (
@@ -41,7 +34,6 @@ loop-again c =
           (⊎-elim (λ w. omega arith) (λ w. omega arith) (c .if1 .came)),
     )
 
--- src/at_once.rt:73:1
 returns : tie.Need-returns Inv-loop μ-loop
 returns c = λ k h. c .before .loop .inv .1 k (omega arith)
 

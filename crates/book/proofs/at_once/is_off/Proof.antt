@@ -6,23 +6,16 @@ use Rattle.book.proofs.Counts.{both-equal}
 use borrow.Author.Needs.{needs}
 use Rattle.book.proofs.at_once.is_off.Statement.{statement}
 use Rattle.book.proofs.at_once.is_off.Tie as tie
-use Rattle.book.proofs.at_once.is_off.Reads as reads
-use Rattle.book.proofs.at_once.is_off.Lts as lts
-use Rattle.book.proofs.at_once.both_at.Reads as both-at-reads
 
--- src/at_once.rt:44:9
 both-at-requires : tie.Need-both-at-requires
 both-at-requires c κs = search needs
 
--- src/at_once.rt:45:33
 sub-both-at : tie.Need-sub-both-at
 sub-both-at c = search needs
 
--- src/at_once.rt:45:9
 both-at-requires-2 : tie.Need-both-at-requires-2
 both-at-requires-2 c κs = search needs
 
--- src/at_once.rt:40:1
 returns : tie.Need-returns
 unfolding off own unjoined repeats goesOn
 returns c =

@@ -10,27 +10,19 @@ use Rattle.book.proofs.Counts.{both-equal}
 use borrow.Author.Needs.{needs}
 use Rattle.book.proofs.at_once.starts_anew.Statement.{statement}
 use Rattle.book.proofs.at_once.starts_anew.Tie as tie
-use Rattle.book.proofs.at_once.starts_anew.Reads as reads
-use Rattle.book.proofs.at_once.starts_anew.Lts as lts
-use Rattle.book.proofs.at_once.both_at.Reads as both-at-reads
 
--- src/at_once.rt:95:9
 returns : tie.Need-returns
 returns c = rw (eq-eqb _ _ (c .if1 .taken)) refl
 
--- src/at_once.rt:97:9
 both-at-requires : tie.Need-both-at-requires
 both-at-requires c κs = search needs
 
--- src/at_once.rt:98:43
 sub-before : tie.Need-sub-before
 sub-before c = search needs
 
--- src/at_once.rt:99:9
 both-at-requires-2 : tie.Need-both-at-requires-2
 both-at-requires-2 c κs = ⊎-elim (λ w. omega arith) (λ w. omega arith) (c .if2 .came)
 
--- src/at_once.rt:90:1
 returns-2 : tie.Need-returns-2
 unfolding fresh own unjoined repeats goesOn
 returns-2 c =

@@ -16,10 +16,6 @@ use Rattle.trade.proofs.Answers.{givenFirst-none}
 use Rattle.book.proofs.BadRecord.{unmet, mark-more}
 use Rattle.book.proofs.records.has_bad_record.Statement.{statement}
 use Rattle.book.proofs.records.has_bad_record.Tie as tie
-use Rattle.book.proofs.records.has_bad_record.Reads as reads
-use Rattle.book.proofs.records.has_bad_record.Lts as lts
-use Rattle.book.proofs.records.id_at.Reads as id-at-reads
-use Rattle.book.proofs.records.is_bad_record.Reads as is-bad-record-reads
 
 abbrev Inv-loop : tie.InvT-loop
 Inv-loop flows records met₀ bad₀ i₀ met bad i =
@@ -31,23 +27,18 @@ Inv-loop flows records met₀ bad₀ i₀ met bad i =
 abbrev μ-loop : tie.MeasureT-loop
 μ-loop flows records met₀ bad₀ i₀ met bad i = flows - i
 
--- src/records.rt:116:5
 loop-holds : tie.Need-loop-holds Inv-loop μ-loop
 loop-holds c = (omega arith, λ e k h. absurd (omega arith), λ k h. absurd (omega arith), refl)
 
--- src/records.rt:117:20
 id-at-requires : tie.Need-id-at-requires Inv-loop μ-loop
 id-at-requires c κs = omega arith
 
--- src/records.rt:117:19
 cast-low : tie.Need-cast-low Inv-loop μ-loop
 cast-low c = omega arith
 
--- src/records.rt:118:47
 array-read-is-bad-record : tie.Need-array-read-is-bad-record Inv-loop μ-loop
 array-read-is-bad-record c = omega arith
 
--- src/records.rt:118:21
 is-bad-record-requires : tie.Need-is-bad-record-requires Inv-loop μ-loop
 is-bad-record-requires c κs =
     let loop = c .before .before .loop in
@@ -56,19 +47,15 @@ is-bad-record-requires c κs =
       λ e. unmet (loop .met) records (loop .i) (loop .inv .2) (rw (c .id-at .ensures) at e),
     )
 
--- src/records.rt:119:9
 array-write-met : tie.Need-array-write-met Inv-loop μ-loop
 array-write-met c = omega arith
 
--- src/records.rt:120:9
 add-i : tie.Need-add-i Inv-loop μ-loop
 add-i c = omega arith
 
--- src/records.rt:116:5
 loop-less : tie.Need-loop-less Inv-loop μ-loop
 loop-less c = omega arith
 
--- src/records.rt:116:5
 loop-again : tie.Need-loop-again Inv-loop μ-loop
 loop-again c =
     let records = now (c .before .before .before .before .before .args .records) in
@@ -81,7 +68,6 @@ loop-again c =
       length-set (loop .met) (c .before .id-at .result % 256) 1 ∙ loop .inv .3,
     )
 
--- src/records.rt:109:1
 returns : tie.Need-returns Inv-loop μ-loop
 unfolding code6 factsOf badRecord
 returns c =

@@ -3,19 +3,13 @@ use mathlib.Core.Path.{sym}
 use borrow.Author.Needs.{needs}
 use Rattle.book.proofs.records.is_repeat.Statement.{statement}
 use Rattle.book.proofs.records.is_repeat.Tie as tie
-use Rattle.book.proofs.records.is_repeat.Reads as reads
-use Rattle.book.proofs.records.is_repeat.Lts as lts
-use Rattle.book.proofs.records.id_before.Reads as id-before-reads
 
--- src/records.rt:91:9
 id-before-requires : tie.Need-id-before-requires
 id-before-requires c κs = search needs
 
--- src/records.rt:91:9
 returns : tie.Need-returns
 returns c = search needs
 
--- src/records.rt:85:1
 returns-2 : tie.Need-returns-2
 returns-2 c = sym (c .before .before .pre .1 (c .if1 .left))
 

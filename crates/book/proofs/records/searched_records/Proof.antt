@@ -12,11 +12,6 @@ use Rattle.trade.proofs.First.{not-both}
 use Rattle.trade.proofs.Answers.{givenFirst-at, givenFirst-none}
 use Rattle.book.proofs.records.searched_records.Statement.{statement}
 use Rattle.book.proofs.records.searched_records.Tie as tie
-use Rattle.book.proofs.records.searched_records.Reads as reads
-use Rattle.book.proofs.records.searched_records.Lts as lts
-use Rattle.book.proofs.records.is_bad_record.Reads as is-bad-record-reads
-use Rattle.trade.proofs.answer.Answer.done.Reads as done-reads
-use Rattle.trade.proofs.answer.Answer.refused.Reads as refused-reads
 
 abbrev Inv-loop : tie.InvT-loop
 Inv-loop flows records i₀ i = (i ≤ flows) × ((k : ℕ) → k < i → badRecord (factsIn 0 0 [] records []) k ≡ false)
@@ -24,19 +19,15 @@ Inv-loop flows records i₀ i = (i ≤ flows) × ((k : ℕ) → k < i → badRec
 abbrev μ-loop : tie.MeasureT-loop
 μ-loop flows records i₀ i = flows - i
 
--- src/records.rt:100:5
 loop-holds : tie.Need-loop-holds Inv-loop μ-loop
 loop-holds c = (omega arith, λ k h. absurd (omega arith))
 
--- src/records.rt:101:12
 is-bad-record-requires : tie.Need-is-bad-record-requires Inv-loop μ-loop
 is-bad-record-requires c κs = (omega arith, λ e. absurd (not-both refl e))
 
--- src/records.rt:102:13
 refused-requires : tie.Need-refused-requires Inv-loop μ-loop
 refused-requires c κs = tt
 
--- src/records.rt:102:13
 returns : tie.Need-returns Inv-loop μ-loop
 unfolding code6 factsOf badRecord
 returns c =
@@ -48,26 +39,21 @@ returns c =
     (c .before .before .before .before .loop .inv .1)
     (sym (c .before .before .is-bad-record .ensures) ∙ c .before .if1 .taken))
 
--- src/records.rt:104:9
 add-i : tie.Need-add-i Inv-loop μ-loop
 add-i c = omega arith
 
--- src/records.rt:100:5
 loop-less : tie.Need-loop-less Inv-loop μ-loop
 loop-less c = omega arith
 
--- src/records.rt:100:5
 loop-again : tie.Need-loop-again Inv-loop μ-loop
 loop-again c = (
   omega arith,
   below-more _ _ (c .before .before .before .loop .inv .1) (sym (c .before .is-bad-record .ensures) ∙ c .if1 .left),
 )
 
--- src/records.rt:106:5
 done-requires : tie.Need-done-requires Inv-loop μ-loop
 done-requires c κs = tt
 
--- src/records.rt:95:1
 returns-2 : tie.Need-returns-2 Inv-loop μ-loop
 unfolding code6 factsOf badRecord
 returns-2 c =

@@ -6,18 +6,13 @@ use lib.Pow.{shr-shr}
 use borrow.Author.Needs.{needs}
 use Rattle.book.proofs.rows.has_above.Statement.{statement}
 use Rattle.book.proofs.rows.has_above.Tie as tie
-use Rattle.book.proofs.rows.has_above.Reads as reads
-use Rattle.book.proofs.rows.has_above.Lts as lts
 
--- src/rows.rt:20:14
 sub-result : tie.Need-sub-result
 sub-result c = search needs
 
--- src/rows.rt:20:6
 shr-result : tie.Need-shr-result
 shr-result c = search needs
 
--- src/rows.rt:16:1
 returns : tie.Need-returns
 returns c =
     let a = c .args in

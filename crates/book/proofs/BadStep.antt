@@ -48,7 +48,7 @@ first-of-plan f i (suc j) l h =
     between k e (inr b) = omega (arith, sum-le (f .len) k i b)
 
 -- the tests of a step: by itself, and, unless it is the first of a plan, with the step before
-by-tests : (f : Facts) (k : ℕ) → badStep f k ≡ (misplaced (f .nodes) (f .step k) || not (firstOfPlan f k) && unjoined (f .step k) (f .step (k - 1)))
+pub by-tests : (f : Facts) (k : ℕ) → badStep f k ≡ (misplaced (f .nodes) (f .step k) || not (firstOfPlan f k) && unjoined (f .step k) (f .step (k - 1)))
 unfolding badStep misplaced unjoined
 by-tests f k = refl
 

@@ -3,6 +3,7 @@ pub mod Words
 pub mod BadRow
 pub mod BadRecord
 pub mod BadStep
+pub mod Counts
 pub mod OwnSections
 pub mod Frames
 pub mod Opening

@@ -1,5 +1,6 @@
 // The records of a book or a table: ten bytes for each flow, highest priority first.
 ghost use mathlib.Core.Path.{_≡_};
+ghost use mathlib.Core.Bool.{false};
 ghost use mathlib.Core.List.{[]};
 ghost use Prim.Native.Nat.{_+_, _*_, _≤_, _<_};
 ghost use lib.Dec.{eqb};
@@ -9,6 +10,7 @@ ghost use Rattle.trade.specs.First.{some, sumTo};
 ghost use Rattle.trade.specs.Layout.{field};
 ghost use Rattle.trade.specs.Facts.{factsIn, flowIn};
 ghost use Rattle.book.specs.Records.{misfit};
+ghost use Rattle.trade.specs.Answers.{done};
 ghost use Rattle.trade.specs.Codes.{outside, badRecord, code6};
 use crate::numbers::word_at;
 use trade::Answer;
@@ -80,25 +82,68 @@ pub fn is_misfit(f: Flow) -> bool
         | is_outside(1, Plan::MOST as u16, f.len)
 }
 
-// Whether record i is one that code 6 refuses.
-fn is_bad_record(records: &[u8], i: usize) -> bool
+// Whether an earlier record has the id of record i, searched for only if an id with its lower byte has been met.
+fn is_repeat(records: &[u8], i: usize, met: bool) -> bool
     requires { ⌜ recordBytes * i + recordBytes ≤ length (now records) ⌝ }
-    ensures { λ r. ⌜ r ≡ badRecord (factsIn 0 0 [] (now (records .entry)) []) i ⌝ }
+    requires { ⌜ (met ≡ false → some (λ j. eqb (field (now records) j 0) (field (now records) i 0)) i ≡ false) ⌝ }
+    ensures { λ r. ⌜ r ≡ some (λ j. eqb (field (now (records .entry)) j 0) (field (now (records .entry)) i 0)) i ⌝ }
 {
-    is_misfit(record_at(records, i)) | id_before(records, i)
+    if met {
+        return id_before(records, i);
+    }
+    false
 }
 
-// Code 6, at the first bad record.
-pub fn records_answer(flows: usize, records: &[u8]) -> Answer
+// Whether record i is one that code 6 refuses.
+fn is_bad_record(records: &[u8], i: usize, met: bool) -> bool
+    requires { ⌜ recordBytes * i + recordBytes ≤ length (now records) ⌝ }
+    requires { ⌜ (met ≡ false → some (λ j. eqb (field (now records) j 0) (field (now records) i 0)) i ≡ false) ⌝ }
+    ensures { λ r. ⌜ r ≡ badRecord (factsIn 0 0 [] (now (records .entry)) []) i ⌝ }
+{
+    let repeat = is_repeat(records, i, met);
+    is_misfit(record_at(records, i)) | repeat
+}
+
+// Whether some record is bad, with no branch that a field decides, and the ids met marked by their lower bytes. If not, code 6 is not
+// given; if so the records are to be searched.
+fn has_bad_record(flows: usize, records: &[u8]) -> bool
+    requires { ⌜ recordBytes * flows ≤ length (now records) ⌝ }
+    ensures { λ r. ⌜ (r ≡ false → code6 (factsIn 0 flows [] (now (records .entry)) []) ≡ done 0) ⌝ }
+{
+    let mut met = [0u8; 256];
+    let mut bad = false;
+    let mut i = 0;
+    while i < flows {
+        let low = (id_at(records, i) % 256) as usize;
+        bad = bad | is_bad_record(records, i, met[low] == 1);
+        met[low] = 1;
+        i += 1;
+    }
+    bad
+}
+
+// Code 6 by a search through the records.
+fn searched_records(flows: usize, records: &[u8]) -> Answer
     requires { ⌜ recordBytes * flows ≤ length (now records) ⌝ }
     ensures { λ r. ⌜ r ≡ code6 (factsIn 0 flows [] (now (records .entry)) []) ⌝ }
 {
     let mut i = 0;
     while i < flows {
-        if is_bad_record(records, i) {
+        if is_bad_record(records, i, true) {
             return Answer::refused(6, i as u64);
         }
         i += 1;
+    }
+    Answer::done(0)
+}
+
+// Code 6, at the first bad record. They are searched only if one is bad.
+pub fn records_answer(flows: usize, records: &[u8]) -> Answer
+    requires { ⌜ recordBytes * flows ≤ length (now records) ⌝ }
+    ensures { λ r. ⌜ r ≡ code6 (factsIn 0 flows [] (now (records .entry)) []) ⌝ }
+{
+    if has_bad_record(flows, records) {
+        return searched_records(flows, records);
     }
     Answer::done(0)
 }

@@ -12,15 +12,12 @@ use plans::mask::row_mask;
 use trade::Answer;
 use trade::Node;
 
-// Whether a set has a node at or above n.
+// Whether a set has a node at or above n. In two shifts, each by less than the 64 bits of a set.
 fn has_above(nodes: usize, set: u64) -> bool
-    requires { ⌜ nodes ≤ mostNodes ⌝ }
+    requires { ⌜ (1 ≤ nodes) × (nodes ≤ mostNodes) ⌝ }
     ensures { λ r. ⌜ r ≡ not (eqb (set / 2 ^ nodes) 0) ⌝ }
 {
-    if nodes == Node::MOST {
-        return false;
-    }
-    set >> nodes != 0
+    (set >> (nodes - 1)) >> 1 != 0
 }
 
 // Whether row x has its own bit or a bit at or above n.

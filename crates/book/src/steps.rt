@@ -1,14 +1,15 @@
 // The steps of a book or a table: the plans in flow order with no gap, and code 8.
 ghost use mathlib.Core.Path.{_≡_};
 ghost use mathlib.Core.List.{[]};
-ghost use Prim.Native.Nat.{ℕ, _+_, _*_, _≤_, _<_};
+ghost use Prim.Native.Nat.{_+_, _*_, _≤_, _<_};
 ghost use lib.ListN.{length};
-ghost use Rattle.trade.specs.Limits.{recordBytes, stepBytes, mostFlows, mostSteps};
+ghost use Rattle.trade.specs.Limits.{recordBytes, stepBytes, mostFlows};
 ghost use Rattle.trade.specs.First.{first, sumTo};
 ghost use Rattle.trade.specs.Layout.{field};
 ghost use Rattle.trade.specs.Facts.{factsIn};
 ghost use Rattle.trade.specs.Codes.{code8};
 ghost use Rattle.book.specs.Steps.{misplaced, unjoined, badInPlan};
+use crate::at_once::counts_agree;
 use crate::records::len_at;
 use plans::steps::step_at;
 use trade::Answer;
@@ -60,8 +61,8 @@ fn first_bad_step(nodes: usize, plan: &[u8], len: usize) -> usize
     j
 }
 
-// Code 8, at the first bad step, counted over all plans.
-pub fn steps_answer(nodes: usize, flows: usize, records: &[u8], steps: &[u8]) -> Answer
+// Code 8 by a search through the plans, one after the other.
+fn searched_steps(nodes: usize, flows: usize, records: &[u8], steps: &[u8]) -> Answer
     requires { ⌜ (flows ≤ mostFlows) × (recordBytes * flows ≤ length (now records)) ⌝ }
     requires { ⌜ stepBytes * sumTo (λ i. field (now records) i 4) flows ≤ length (now steps) ⌝ }
     ensures { λ r. ⌜ r ≡ code8 (factsIn nodes flows [] (now (records .entry)) (now (steps .entry))) ⌝ }
@@ -79,4 +80,16 @@ pub fn steps_answer(nodes: usize, flows: usize, records: &[u8], steps: &[u8]) ->
         i += 1;
     }
     Answer::done(0)
+}
+
+// Code 8, at the first bad step, counted over all plans. They are searched only if their counts do not agree.
+pub fn steps_answer(nodes: usize, flows: usize, records: &[u8], steps: &[u8]) -> Answer
+    requires { ⌜ (flows ≤ mostFlows) × (recordBytes * flows ≤ length (now records)) ⌝ }
+    requires { ⌜ stepBytes * sumTo (λ i. field (now records) i 4) flows ≤ length (now steps) ⌝ }
+    ensures { λ r. ⌜ r ≡ code8 (factsIn nodes flows [] (now (records .entry)) (now (steps .entry))) ⌝ }
+{
+    if counts_agree(nodes, flows, records, steps) {
+        return Answer::done(0);
+    }
+    searched_steps(nodes, flows, records, steps)
 }

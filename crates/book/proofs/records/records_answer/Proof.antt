@@ -1,93 +1,26 @@
--- `book::records::records_answer` meets its contract: no record before i is bad. Assumes nothing.
-use Prim.Native.Nat.{ℕ, _≤_, _<_, _-_}
-use mathlib.Core.Path.{_≡_, _∙_, sym}
-use mathlib.Core.Bool.{false}
-use mathlib.Core.List.{[]}
-use borrow.Author.Count.{below-more}
-use denote.Ref.{now}
-use native.Mathlib.Omega.{arith}
-use Rattle.trade.specs.Facts.{factsIn, factsOf}
-use Rattle.trade.specs.Codes.{badRecord, code6}
-use Rattle.trade.proofs.Answers.{givenFirst-at, givenFirst-none}
+-- `book::records::records_answer` meets its contract: no record is bad if none is found at once, and if one is a search tells. Assumes
+-- nothing.
+use mathlib.Core.Path.{_∙_, sym}
+use borrow.Author.Needs.{needs}
 use Rattle.book.proofs.records.records_answer.Statement.{statement}
 use Rattle.book.proofs.records.records_answer.Tie as tie
-use Rattle.book.proofs.records.records_answer.Reads as reads
-use Rattle.book.proofs.records.records_answer.Lts as lts
-use Rattle.book.proofs.records.is_bad_record.Reads as is-bad-record-reads
-use Rattle.trade.proofs.answer.Answer.done.Reads as done-reads
-use Rattle.trade.proofs.answer.Answer.refused.Reads as refused-reads
 
-abbrev Inv-loop : tie.InvT-loop
-Inv-loop flows records i₀ i = (i ≤ flows) × ((k : ℕ) → k < i → badRecord (factsIn 0 0 [] records []) k ≡ false)
+has-bad-record-requires : tie.Need-has-bad-record-requires
+has-bad-record-requires c κs = search needs
 
-abbrev μ-loop : tie.MeasureT-loop
-μ-loop flows records i₀ i = flows - i
+searched-records-requires : tie.Need-searched-records-requires
+searched-records-requires c κs = search needs
 
--- src/records.rt:100:5
-loop-holds : tie.Need-loop-holds Inv-loop μ-loop
-loop-holds c = (omega arith, λ k h. absurd (omega arith))
+returns : tie.Need-returns
+returns c = search needs
 
--- src/records.rt:101:12
-is-bad-record-requires : tie.Need-is-bad-record-requires Inv-loop μ-loop
-is-bad-record-requires c κs = omega arith
+done-requires : tie.Need-done-requires
+done-requires c κs = search needs
 
--- src/records.rt:102:13
-refused-requires : tie.Need-refused-requires Inv-loop μ-loop
-refused-requires c κs = tt
-
--- src/records.rt:102:13
-returns : tie.Need-returns Inv-loop μ-loop
-unfolding code6 factsOf badRecord
-returns c =
-    let a = c .before .before .before .before .before .before .args in
-    let i = c .before .before .before .before .loop .i in
-    c .refused .ensures
-    ∙ sym
-    (givenFirst-at 6 (badRecord (factsIn 0 0 [] (now (a .records)) [])) (a .flows) i (omega arith)
-    (c .before .before .before .before .loop .inv .1)
-    (sym (c .before .before .is-bad-record .ensures) ∙ c .before .if1 .taken))
-
--- src/records.rt:104:9
-add-i : tie.Need-add-i Inv-loop μ-loop
-add-i c = omega arith
-
--- src/records.rt:100:5
-loop-less : tie.Need-loop-less Inv-loop μ-loop
-loop-less c = omega arith
-
--- src/records.rt:100:5
-loop-again : tie.Need-loop-again Inv-loop μ-loop
-loop-again c = (
-  omega arith,
-  below-more _ _ (c .before .before .before .loop .inv .1) (sym (c .before .is-bad-record .ensures) ∙ c .if1 .left),
-)
-
--- src/records.rt:106:5
-done-requires : tie.Need-done-requires Inv-loop μ-loop
-done-requires c κs = tt
-
--- src/records.rt:95:1
-returns-2 : tie.Need-returns-2 Inv-loop μ-loop
-unfolding code6 factsOf badRecord
-returns-2 c =
-    let a = c .before .before .before .before .args in
-    c .done .ensures
-    ∙ sym
-    (givenFirst-none 6 (badRecord (factsIn 0 0 [] (now (a .records)) [])) (a .flows)
-    (λ k h. c .before .before .loop .inv .1 k (omega arith)))
+returns-2 : tie.Need-returns-2
+returns-2 c = c .done .ensures ∙ sym (c .before .before .has-bad-record .ensures (c .before .if1 .left))
 
 pub records-answer-spec : {M : Type 1} → statement M
 records-answer-spec =
     tie.close
-    (tie.spec
-    Inv-loop
-    μ-loop
-    loop-holds
-    is-bad-record-requires
-    refused-requires
-    returns
-    add-i
-    loop-less
-    loop-again
-    done-requires
-    returns-2)
+    (tie.spec has-bad-record-requires searched-records-requires returns done-requires returns-2)

@@ -1,27 +1,23 @@
--- `book::rows::has_above` meets its contract: with 64 nodes no bit is above. Assumes nothing.
-use mathlib.Core.Path.{_≡_}
-use Prim.Native.Nat.{_^_}
-use native.Mathlib.Nat.{div-eq-of-lt}
+-- `book::rows::has_above` meets its contract: the two shifts are one by n. Assumes nothing.
+use Prim.Native.Nat.{_+_, _-_}
+use mathlib.Core.Path.{_≡_, refl}
 use native.Mathlib.Omega.{arith}
+use lib.Pow.{shr-shr}
 use borrow.Author.Needs.{needs}
 use Rattle.book.proofs.rows.has_above.Statement.{statement}
 use Rattle.book.proofs.rows.has_above.Tie as tie
-use Rattle.book.proofs.rows.has_above.Reads as reads
-use Rattle.book.proofs.rows.has_above.Lts as lts
 
--- src/rows.rt:22:9
-returns : tie.Need-returns
-returns c =
-    let e : c .before .args .nodes ≡ 64 = c .if1 .taken in
-    rw (e, div-eq-of-lt {n = c .before .args .set} {m = 2 ^ 64} (omega arith))
+sub-result : tie.Need-sub-result
+sub-result c = search needs
 
--- src/rows.rt:24:5
 shr-result : tie.Need-shr-result
 shr-result c = search needs
 
--- src/rows.rt:17:1
-returns-2 : tie.Need-returns-2
-returns-2 c = search needs
+returns : tie.Need-returns
+returns c =
+    let a = c .args in
+    let e : a .nodes - 1 + 1 ≡ a .nodes = omega arith in
+    rw (shr-shr (a .set) (a .nodes - 1) 1, e) refl
 
 pub has-above-spec : {M : Type 1} → statement M
-has-above-spec = tie.close (tie.spec returns shr-result returns-2)
+has-above-spec = tie.close (tie.spec sub-result shr-result returns)

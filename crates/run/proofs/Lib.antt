@@ -3,6 +3,7 @@ pub mod Turning
 pub mod Places
 pub mod Choosing
 pub mod Refusing
+pub mod Seeing
 pub mod Prefix
 pub mod Advanced
 pub mod OpenBook

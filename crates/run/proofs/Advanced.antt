@@ -26,7 +26,7 @@ use Rattle.trade.proofs.Area.{placeByte}
 use Rattle.run.specs.States.{stateOf, Reads}
 use Rattle.run.specs.Refusals.{runAnswer}
 use Rattle.run.specs.Dues.{IsDue}
-use Rattle.run.specs.Slots.{Ran}
+use Rattle.run.specs.Slots.{Released, Ran}
 use Rattle.run.specs.Calls.{Advances}
 use Rattle.run.specs.declared.due.Due.{Due}
 use Rattle.run.specs.declared.slot.Outcome.{Outcome}
@@ -213,7 +213,7 @@ module _ (b area grants : List ℕ) where
               phases i h = sym (isDue .firsts i h)
 
               level : Level (said b .flows) (said b) ours (said b .phase) firsts (stateIn area) (stateOf (due .run))
-              unfolding said factsOf stateOf doneNow released
+              unfolding said factsOf stateOf Released doneNow released
               level =
                   record {
                     slot = sym (isDue .slot ∙ reads .slot);

@@ -24,6 +24,7 @@ use Rattle.run.specs.States.{placeOf, stateOf}
 use Rattle.run.specs.Turns.{releasedAt}
 use Rattle.run.specs.Refusals.{placeAt}
 use Rattle.run.specs.Dues.{IsDue}
+use Rattle.run.specs.Slots.{Released}
 use Rattle.run.specs.declared.due.Due.{Due}
 use Rattle.run.proofs.Places.{stored, unstored}
 use Rattle.run.proofs.Refusing.{run-clear}
@@ -168,10 +169,8 @@ twice false x y = refl
 pub released-once :
     (flows : ℕ) (rows records steps : List ℕ) (run : Run) (due : Due)
     → IsDue (factsIn 0 flows [] records []) run due
-    → (i : ℕ)
-    → i < flows
-    → doneNow (factsIn 0 flows rows records steps) (λ k. getD (due .firsts) k 0) (stateOf (due .run)) i ≡ placeOf (due .run .flows) i
-unfolding doneNow released factsOf stateOf
+    → Released (factsIn 0 flows rows records steps) (λ i. getD (due .firsts) i 0) (stateOf (due .run))
+unfolding Released doneNow released factsOf stateOf
 released-once flows rows records steps run due isDue i h =
     rw (isDue .firsts i h, isDue .slot, isDue .places i h)
     (twice (leb (field records i 1) (run .slot .0) && eqb ((run .slot .0 - field records i 1) % field records i 2) 0) 0 (placeOf (run .flows) i))

@@ -17,6 +17,7 @@ use Rattle.run.specs.Refusals.{runAnswer}
 use Rattle.run.specs.Dues.{IsDue}
 use Rattle.run.specs.Slots.{Ran}
 use Rattle.run.proofs.Refusing.{slot-runs}
+use Rattle.run.proofs.Seeing.{released-once}
 use Rattle.run.proofs.OpenBook.{OpenBook, open-book}
 use Rattle.run.proofs.Advanced.{refuses, read-answer, advance-refused, book-refused, area-short, grants-short, run-refused, advance-done}
 use borrow.Author.Needs.{needs}
@@ -143,6 +144,7 @@ run-slot-requires c κs =
       c .before .before .before .before .before .before .before .before .before .before .before .before .before .if3 .left,
       rw (after .slot, run .slot) (slot-runs _ _ (passed (c .before .before .before .before .before .before))),
       after .size ∙ run .size,
+      released-once _ _ _ _ (c .before .before .before .before .before .before .before .before .before .before .read-run .result) (c .before .before .before .before .before .before .before .before .before .due-in .result) (c .before .before .before .before .before .before .before .before .before .due-in .ensures),
     )
 
 write-run-requires : tie.Need-write-run-requires

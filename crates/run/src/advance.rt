@@ -40,13 +40,12 @@ pub fn advance(book: &[u8], area: &mut [u8], grants: &mut [u8]) -> Answer
         return refusal;
     }
     let released = due.run;
-    let firsts = due.firsts;
     let out = run_slot(
         flows,
         rows_of(book, f),
         records,
         steps_of(book, f),
-        &firsts,
+        &due.firsts,
         released,
         grants,
     );

@@ -63,7 +63,7 @@ ran :
     (c .run-slot .result)
     (c .run-slot .last .1 .1 .1 .1 .1 .1 .0)
 unfolding said factsOf
-ran c = rw (opened (c .before .before .before .before .before .before .before .before .before .before .before .before .before .before .before .before .before) .flows, c .before .before .before .before .rows-of .ensures, c .before .before .before .before .before .before .before .before .before .before .before .before .before .records-of .ensures, c .before .before .before .steps-of .ensures) at (c .run-slot .ensures)
+ran c = rw (opened (c .before .before .before .before .before .before .before .before .before .before .before .before .before .before .before .before .before) .flows, c .before .before .before .before .before .rows-of .ensures, c .before .before .before .before .before .before .before .before .before .before .before .before .before .records-of .ensures, c .before .before .before .before .steps-of .ensures) at (c .run-slot .ensures)
 
 open-book-requires : tie.Need-open-book-requires
 open-book-requires c κs = search needs
@@ -131,16 +131,16 @@ returns-4 c =
     (c .if4 .taken)
 
 rows-of-requires : tie.Need-rows-of-requires
-rows-of-requires c κs = opened (c .before .before .before .before .before .before .before .before .before .before .before .before) .lies
+rows-of-requires c κs = opened (c .before .before .before .before .before .before .before .before .before .before .before) .lies
 
 steps-of-requires : tie.Need-steps-of-requires
-steps-of-requires c κs = opened (c .before .before .before .before .before .before .before .before .before .before .before .before .before) .lies
+steps-of-requires c κs = opened (c .before .before .before .before .before .before .before .before .before .before .before .before) .lies
 
 run-slot-requires : tie.Need-run-slot-requires
 run-slot-requires c κs =
     let run = c .before .before .before .before .before .before .before .before .before .before .read-run .ensures in
     let after = due (c .before .before .before .before .before .before .before .before .before) in (
-      rw (c .before .before .before .rows-of .ensures, c .before .before .before .before .before .before .before .before .before .before .before .before .records-of .ensures, c .before .before .steps-of .ensures) (opened (c .before .before .before .before .before .before .before .before .before .before .before .before .before .before .before .before) .formed),
+      rw (c .before .before .before .before .rows-of .ensures, c .before .before .before .before .before .before .before .before .before .before .before .before .records-of .ensures, c .before .before .before .steps-of .ensures) (opened (c .before .before .before .before .before .before .before .before .before .before .before .before .before .before .before .before) .formed),
       c .before .before .before .before .before .before .before .before .before .before .before .before .before .if3 .left,
       rw (after .slot, run .slot) (slot-runs _ _ (passed (c .before .before .before .before .before .before))),
       after .size ∙ run .size,

@@ -1,5 +1,6 @@
 -- Laws that the proofs of this crate's functions cite.
 pub mod Turning
+pub mod Writing
 pub mod Places
 pub mod Choosing
 pub mod Refusing

@@ -2,6 +2,7 @@
 pub mod advance;
 pub mod area;
 pub mod due;
+pub mod four;
 pub mod refusals;
 pub mod release;
 pub mod slot;

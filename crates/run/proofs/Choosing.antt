@@ -2,7 +2,7 @@
 -- number and in the buffer. Leans on Places, and on the trade's Slot. Assumes nothing.
 use Prim.Native.Nat.{ℕ, zero, suc, _+_, _*_, _≤_, _<_}
 use mathlib.Core.Path.{_≡_, refl, sym, _∙_, ap, ap₂}
-use mathlib.Core.Bool.{Bool, true, false, cond, not, _&&_}
+use mathlib.Core.Bool.{Bool, true, false, not, _&&_}
 use mathlib.Core.Logic.{⊎-elim}
 use mathlib.Core.List.{List, [], _∷_, _++_, map, map-append, append-assoc, append-nil}
 use native.Mathlib.Nat.{add-zero}
@@ -18,7 +18,7 @@ use Rattle.trade.specs.Layout.{field}
 use Rattle.trade.specs.Facts.{Facts, factsOf, factsIn, flowIn, stepIn, firstStep, stepOf}
 use Rattle.trade.specs.Interference.{one}
 use Rattle.trade.specs.Run.{idleOf}
-use Rattle.trade.specs.Slot.{State, Rule, going, greedy, granted, among, released, instanceAt, doneNow, unfinished, nextStep, nextState, grantOf, grantsOf}
+use Rattle.trade.specs.Slot.{State, Rule, going, greedy, granted, among, instanceAt, doneNow, unfinished, nextStep, nextState, grantOf, grantsOf}
 use Rattle.trade.specs.declared.node.Transmission.{Transmission}
 use Rattle.trade.specs.declared.state.Progress.{Progress}
 use Rattle.trade.specs.declared.state.Run.{Run}

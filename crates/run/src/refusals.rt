@@ -93,7 +93,7 @@ pub(crate) fn run_answer(flows: usize, records: &[u8], run: Run) -> Answer
     overrun_answer(flows, records, run)
 }
 
-// The same, where a look at all flows has found no doubt that none of the three is given, or has left the doubt to them.
+// The same, asked only in doubt: where one look at all flows has left none, none of the three is given.
 pub(crate) fn answer_in_doubt(doubt: bool, flows: usize, records: &[u8], run: Run) -> Answer
     requires { ⌜ (recordBytes * flows ≤ length (now records)) × ((i : ℕ) → i < flows → 0 < field (now records) i 2) × (flows ≤ mostFlows) × (doubt ≡ false → runAnswer (factsIn 0 flows [] (now records) []) (stateOf run) ≡ done 0) ⌝ }
     ensures { λ r. ⌜ r ≡ runAnswer (factsIn 0 flows [] (now (records .entry)) []) (stateOf run) ⌝ }

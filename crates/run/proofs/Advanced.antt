@@ -1,4 +1,4 @@
--- ADVANCE: its answer by its rules in their order, and what it leaves where it is done. Leans on Refusing, Prefix and Places.
+-- ADVANCE: its answer by its rules in their order, and what it leaves where it is done. Leans on Refusing, Seeing, Prefix and Places.
 -- Assumes nothing.
 use Prim.Native.Nat.{ℕ, suc, _*_, _≤_, _<_}
 use mathlib.Core.Path.{_≡_, refl, sym, _∙_, ap, ap₂}
@@ -7,13 +7,13 @@ use mathlib.Core.Logic.{⊎-elim}
 use mathlib.Core.List.{List, [], _∷_}
 use native.Mathlib.Omega.{arith}
 use lib.Dec.{ltb}
-use lib.ListN.{length}
+use lib.ListN.{length, getD}
 use borrow.Author.Tests.{lt-ltb, le-ltb, eq-eqb, ne-eqb}
 use Rattle.trade.specs.Limits.{mostFlows, areaBytes, grantBytes, endOfClock}
 use Rattle.trade.specs.Bytes.{over}
 use Rattle.trade.specs.Layout.{sectionsOf}
 use Rattle.trade.specs.Facts.{Facts, factsOf, factsIn, said, stepOf, firstStep}
-use Rattle.trade.specs.Slot.{State, released, nextState}
+use Rattle.trade.specs.Slot.{State, released, doneNow, nextState}
 use Rattle.trade.specs.Area.{stateIn, areaOf}
 use Rattle.trade.specs.Answers.{done, refused, isDone, firstOf, noNumber}
 use Rattle.trade.specs.Codes.{badPlace, overrun, code10, code11, code12, code13}
@@ -25,12 +25,15 @@ use Rattle.trade.proofs.Answers.{firstOf-rule, firstOf-refuse, firstOf-pass, fi
 use Rattle.trade.proofs.Area.{placeByte}
 use Rattle.run.specs.States.{stateOf, Reads}
 use Rattle.run.specs.Refusals.{runAnswer}
-use Rattle.run.specs.Slots.{Ran}
+use Rattle.run.specs.Dues.{IsDue}
+use Rattle.run.specs.Slots.{Released, Ran}
 use Rattle.run.specs.Calls.{Advances}
+use Rattle.run.specs.declared.due.Due.{Due}
 use Rattle.run.specs.declared.slot.Outcome.{Outcome}
 use Rattle.run.proofs.Places.{area-same}
 use Rattle.run.proofs.Refusing.{unused-zero}
-use Rattle.run.proofs.Prefix.{Alike, Abreast, alike-granted, alike-grants, alike-on}
+use Rattle.run.proofs.Prefix.{Alike, Abreast, Level, alike-granted, alike-grants, alike-on}
+use Rattle.run.proofs.Seeing.{released-once}
 
 -- memory that is too short, and memory that is not
 pub too-short : (needed : ℕ) (memory : List ℕ) → length memory < needed → code13 needed memory ≡ refused 13 0
@@ -174,65 +177,85 @@ module _ (b area grants : List ℕ) where
           unfolding isDone
           all-passed = by-run ∙ rw (eq-eqb (runAnswer (said b) (stateIn area) .code) 0 passes)
 
-          -- the run that was read, and the first releases, are those that the book and the area say
-          module _ (few : said b .flows ≤ mostFlows) (run : Run) (reads : Reads area run) (firsts : ℕ → ℕ) (phases : (i : ℕ) → i < said b .flows → said b .phase i ≡ firsts i) where
-            abbrev ours : Facts
-            ours = factsIn 0 (sectionsOf b .flows) (sectionsOf b .rows) (sectionsOf b .records) (sectionsOf b .steps)
+          -- what is due is due in the run that was read, and that is the run of the area
+          module _
+              (few : said b .flows ≤ mostFlows) (run : Run) (reads : Reads area run)
+              (due : Due) (isDue : IsDue (factsIn 0 (sectionsOf b .flows) [] (sectionsOf b .records) []) run due)
+            where
+              abbrev ours : Facts
+              ours = factsIn 0 (sectionsOf b .flows) (sectionsOf b .rows) (sectionsOf b .records) (sectionsOf b .steps)
 
-            alike : Alike (said b .flows) (said b) ours
-            unfolding said factsOf stepOf firstStep
-            alike =
-                record {
-                  disturbs = λ x y. refl;
-                  id = λ i h. refl;
-                  phase = λ i h. refl;
-                  period = λ i h. refl;
-                  len = λ i h. refl;
-                  steps = λ i j h l. refl;
-                }
+              abbrev firsts : ℕ → ℕ
+              firsts i = getD (due .firsts) i 0
 
-            abreast : Abreast (said b .flows) (stateIn area) (stateOf run)
-            unfolding stateOf
-            abreast = record { slot = sym (reads .slot); done = λ i h. sym (reads .places i (omega arith)) }
-
-            flows-ours : ours .flows ≡ said b .flows
-            unfolding said factsOf
-            flows-ours = refl
-
-            on : Abreast (said b .flows) (nextState (said b) (said b .phase) (stateIn area)) (nextState ours firsts (stateOf run))
-            on =
-                alike-on (said b .flows) (said b) ours alike (said b .phase) firsts phases (stateIn area) (stateOf run) abreast (omega arith)
-                (omega (arith, flows-ours))
-
-            module _ (out : Outcome) (left : List ℕ) (ran : Ran ours firsts run grants out left) where
-              slot : stateOf (out .run) .slot ≡ nextState (said b) (said b .phase) (stateIn area) .slot
-              unfolding stateOf nextState
-              slot = ran .slot ∙ ap suc (reads .slot)
-
-              places :
-                  (i : ℕ) → i < mostFlows → stateOf (out .run) .done i ≡ placeByte (said b .flows) (nextState (said b) (said b .phase) (stateIn area)) i
-              unfolding stateOf
-              places i h =
-                  ⊎-elim
-                  (λ (l : i < said b .flows). rw (lt-ltb i (said b .flows) l) (ran .places i (omega (arith, flows-ours)) ∙ sym (on .done i l)))
-                  (λ (l : said b .flows ≤ i).
-                  rw (le-ltb i (said b .flows) l)
-                  (ran .others i (omega (arith, flows-ours)) ∙ reads .places i h ∙ unused-zero (said b) (stateIn area) passes i h l))
-                  (lt-or-ge i (said b .flows))
-
-              pub advance-done : Advances handed (done (out .count)) (over (areaOf mostFlows (stateOf (out .run))) area) left
-              unfolding advanceOf isDone flowsGranted grantsIn nextArea
-              advance-done =
-                  let f : Facts = said b in
-                  let s : State = stateIn area in
-                  let u : State = stateOf run in
+              alike : Alike (said b .flows) (said b) ours
+              unfolding said factsOf stepOf firstStep
+              alike =
                   record {
-                    answer =
-                        ap done (ran .count ∙ sym (ap length (alike-granted (f .flows) f ours alike (f .phase) firsts phases s u abreast refl flows-ours)))
-                        ∙ sym all-passed;
-                    area = rw all-passed (ap (λ (bytes : List ℕ). over bytes area) (area-same (f .flows) (stateOf (out .run)) (nextState f (f .phase) s) slot places));
-                    grants =
-                        ran .grants
-                        ∙ sym (ap (λ (bytes : List ℕ). over bytes grants) (alike-grants (f .flows) f ours alike (f .phase) firsts phases s u abreast refl flows-ours))
-                        ∙ rw all-passed;
+                    disturbs = λ x y. refl;
+                    id = λ i h. refl;
+                    phase = λ i h. refl;
+                    period = λ i h. refl;
+                    len = λ i h. refl;
+                    steps = λ i j h l. refl;
                   }
+
+              flows-ours : ours .flows ≡ said b .flows
+              unfolding said factsOf
+              flows-ours = refl
+
+              flows-due : factsIn 0 (sectionsOf b .flows) [] (sectionsOf b .records) [] .flows ≡ said b .flows
+              unfolding said factsOf
+              flows-due = refl
+
+              phases : (i : ℕ) → i < said b .flows → said b .phase i ≡ firsts i
+              unfolding said factsOf
+              phases i h = sym (isDue .firsts i h)
+
+              level : Level (said b .flows) (said b) ours (said b .phase) firsts (stateIn area) (stateOf (due .run))
+              unfolding said factsOf stateOf Released doneNow released
+              level =
+                  record {
+                    slot = sym (isDue .slot ∙ reads .slot);
+                    done =
+                        λ i h.
+                        rw (← reads .slot, ← reads .places i (omega arith)) (sym (isDue .places i h) ∙ sym (released-once (sectionsOf b .flows) (sectionsOf b .rows) (sectionsOf b .records) (sectionsOf b .steps) run due isDue i h));
+                  }
+
+              on : Abreast (said b .flows) (nextState (said b) (said b .phase) (stateIn area)) (nextState ours firsts (stateOf (due .run)))
+              on =
+                  alike-on (said b .flows) (said b) ours alike (said b .phase) firsts phases (stateIn area) (stateOf (due .run)) level (omega arith)
+                  (omega (arith, flows-ours))
+
+              module _ (out : Outcome) (left : List ℕ) (ran : Ran ours firsts (due .run) grants out left) where
+                slot : stateOf (out .run) .slot ≡ nextState (said b) (said b .phase) (stateIn area) .slot
+                unfolding stateOf nextState
+                slot = ran .slot ∙ ap suc (isDue .slot ∙ reads .slot)
+
+                places :
+                    (i : ℕ) → i < mostFlows → stateOf (out .run) .done i ≡ placeByte (said b .flows) (nextState (said b) (said b .phase) (stateIn area)) i
+                unfolding stateOf
+                places i h =
+                    ⊎-elim
+                    (λ (l : i < said b .flows). rw (lt-ltb i (said b .flows) l) (ran .places i (omega (arith, flows-ours)) ∙ sym (on .done i l)))
+                    (λ (l : said b .flows ≤ i).
+                    rw (le-ltb i (said b .flows) l)
+                    (ran .others i (omega (arith, flows-ours)) ∙ isDue .others i (omega (arith, flows-due)) ∙ reads .places i h ∙ unused-zero (said b) (stateIn area) passes i h l))
+                    (lt-or-ge i (said b .flows))
+
+                pub advance-done : Advances handed (done (out .count)) (over (areaOf mostFlows (stateOf (out .run))) area) left
+                unfolding advanceOf isDone flowsGranted grantsIn nextArea
+                advance-done =
+                    let f : Facts = said b in
+                    let s : State = stateIn area in
+                    let u : State = stateOf (due .run) in
+                    record {
+                      answer =
+                          ap done (ran .count ∙ sym (ap length (alike-granted (f .flows) f ours alike (f .phase) firsts phases s u level refl flows-ours)))
+                          ∙ sym all-passed;
+                      area = rw all-passed (ap (λ (bytes : List ℕ). over bytes area) (area-same (f .flows) (stateOf (out .run)) (nextState f (f .phase) s) slot places));
+                      grants =
+                          ran .grants
+                          ∙ sym (ap (λ (bytes : List ℕ). over bytes grants) (alike-grants (f .flows) f ours alike (f .phase) firsts phases s u level refl flows-ours))
+                          ∙ rw all-passed;
+                    }

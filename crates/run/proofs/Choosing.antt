@@ -2,7 +2,7 @@
 -- number and in the buffer. Leans on Places, and on the trade's Slot. Assumes nothing.
 use Prim.Native.Nat.{ℕ, zero, suc, _+_, _*_, _≤_, _<_}
 use mathlib.Core.Path.{_≡_, refl, sym, _∙_, ap, ap₂}
-use mathlib.Core.Bool.{Bool, true, false, cond, not, _&&_}
+use mathlib.Core.Bool.{Bool, true, false, not, _&&_}
 use mathlib.Core.Logic.{⊎-elim}
 use mathlib.Core.List.{List, [], _∷_, _++_, map, map-append, append-assoc, append-nil}
 use native.Mathlib.Nat.{add-zero}
@@ -18,7 +18,7 @@ use Rattle.trade.specs.Layout.{field}
 use Rattle.trade.specs.Facts.{Facts, factsOf, factsIn, flowIn, stepIn, firstStep, stepOf}
 use Rattle.trade.specs.Interference.{one}
 use Rattle.trade.specs.Run.{idleOf}
-use Rattle.trade.specs.Slot.{State, Rule, going, greedy, granted, among, released, instanceAt, doneNow, unfinished, nextStep, nextState, grantOf, grantsOf}
+use Rattle.trade.specs.Slot.{State, Rule, going, greedy, granted, among, instanceAt, doneNow, unfinished, nextStep, nextState, grantOf, grantsOf}
 use Rattle.trade.specs.declared.node.Transmission.{Transmission}
 use Rattle.trade.specs.declared.state.Progress.{Progress}
 use Rattle.trade.specs.declared.state.Run.{Run}
@@ -34,8 +34,8 @@ use Rattle.book.specs.Written.{pastedAt}
 use Rattle.book.proofs.Pasting.{pasted-next}
 use Rattle.admission.specs.Formed.{Formed}
 use Rattle.run.specs.States.{placeOf, stateOf, bytesOf}
-use Rattle.run.specs.Turns.{releasedAt, instanceBy, doneAfter, turnOf, nextOf, goesNow, grantNow, Room, Turned}
-use Rattle.run.specs.Slots.{Ran}
+use Rattle.run.specs.Turns.{instanceBy, turnOf, nextOf, goesNow, grantNow, Room, Turned}
+use Rattle.run.specs.Slots.{Released, Ran}
 use Rattle.run.specs.declared.slot.Turn.{Turn}
 use Rattle.run.specs.declared.slot.Made.{Made}
 use Rattle.run.specs.declared.slot.Taken.{Taken}
@@ -130,7 +130,7 @@ module _ (flows : ℕ) (rows records steps : List ℕ) (firsts : ℕ → ℕ) (r
       }
 
   -- the step that a flow's turn may take
-  module _ (runs : Formed flows rows records steps) (i : ℕ) (taken : i < flows) where
+  module _ (runs : Formed flows rows records steps) (after : Released facts firsts state) (i : ℕ) (taken : i < flows) where
     plan-room : firstStep facts i + field records i 4 ≤ sumTo (λ k. field records k 4) flows
     unfolding firstStep factsOf
     plan-room = omega (arith, sum-next (λ (k : ℕ). field records k 4) i, sum-le (λ (k : ℕ). field records k 4) (suc i) flows taken)
@@ -144,12 +144,13 @@ module _ (flows : ℕ) (rows records steps : List ℕ) (firsts : ℕ → ℕ) (r
     -- one turn
     module _ (lent : List ℕ) (places : List Progress) (made : Made) (grants : List ℕ) (so : Chosen lent i places made grants) where
       abbrev turn : Turn
-      turn = turnOf (flowIn records i) (firsts i) (run .slot .0) (getD places i (idleOf 0)) (firstStep facts i)
+      turn = turnOf (flowIn records i) (firsts i) (run .slot) (getD places i (idleOf 0)) (firstStep facts i)
 
       pub turn-room : grantBytes * flows ≤ length lent → Room rows steps turn made (length grants)
       unfolding turnOf nextOf flowIn
       turn-room room =
           record {
+            period = runs .fields i taken .period .0;
             len = runs .fields i taken .len .1;
             step = λ h. step-room _ h;
             within = λ h. step-within _ h;
@@ -157,8 +158,8 @@ module _ (flows : ℕ) (rows records steps : List ℕ) (firsts : ℕ → ℕ) (r
           }
 
       turn-done : turn .done .0 ≡ doneNow facts firsts state i
-      unfolding turnOf doneAfter releasedAt doneNow released factsOf flowIn stateOf placeOf
-      turn-done = ap (cond (releasedAt (firsts i) (field records i 2) (run .slot .0)) 0) (so .ahead i (omega arith))
+      unfolding Released turnOf factsOf stateOf placeOf
+      turn-done = so .ahead i (omega arith) ∙ sym (after i taken)
 
       turn-next : nextOf steps turn ≡ nextStep facts firsts state i
       unfolding nextOf nextStep stepOf factsOf turnOf

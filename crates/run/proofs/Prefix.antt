@@ -31,23 +31,33 @@ pub record Abreast (k : ℕ) (s u : State) : Type 0 where
   pub slot : s .slot ≡ u .slot
   pub done : (i : ℕ) → i < k → s .done i ≡ u .done i
 
+-- they are level on these flows in a slot: on the slot, and on the steps done by each after the releases
+pub record Level (k : ℕ) (f g : Facts) (firsts others : ℕ → ℕ) (s u : State) : Type 0 where
+  pub slot : s .slot ≡ u .slot
+  pub done : (i : ℕ) → i < k → doneNow f firsts s i ≡ doneNow g others u i
+
 module _
     (k : ℕ) (f g : Facts) (a : Alike k f g)
     (firsts others : ℕ → ℕ) (same : (i : ℕ) → i < k → firsts i ≡ others i)
-    (s u : State) (b : Abreast k s u)
+    (s u : State)
   where
-    alike-done : (i : ℕ) → i < k → doneNow f firsts s i ≡ doneNow g others u i
+    pub alike-level : Abreast k s u → Level k f g firsts others s u
     unfolding doneNow released
-    alike-done i h = rw (same i h, a .period i h, b .slot, b .done i h)
+    alike-level b = record { slot = b .slot; done = λ i h. rw (same i h, a .period i h, b .slot, b .done i h) }
 
+module _
+    (k : ℕ) (f g : Facts) (a : Alike k f g)
+    (firsts others : ℕ → ℕ) (same : (i : ℕ) → i < k → firsts i ≡ others i)
+    (s u : State) (b : Level k f g firsts others s u)
+  where
     alike-work : (i : ℕ) → i < k → unfinished f firsts s i ≡ unfinished g others u i
     unfolding unfinished
-    alike-work i h = ap₂ ltb (alike-done i h) (a .len i h)
+    alike-work i h = ap₂ ltb (b .done i h) (a .len i h)
 
     alike-next : (i : ℕ) → i < k → unfinished f firsts s i ≡ true → nextStep f firsts s i ≡ nextStep g others u i
     unfolding unfinished nextStep
     alike-next i h w =
-        a .steps i (doneNow f firsts s i) h (ltb-true (doneNow f firsts s i) (f .len i) w) ∙ ap (stepOf g i) (alike-done i h)
+        a .steps i (doneNow f firsts s i) h (ltb-true (doneNow f firsts s i) (f .len i) w) ∙ ap (stepOf g i) (b .done i h)
 
     -- the rule has the same flows wait,
     alike-greedy :
@@ -81,7 +91,7 @@ module _
     -- and are granted in the same bytes
     pub alike-grant : (i : ℕ) → i < k → unfinished f firsts s i ≡ true → grantOf f firsts s i ≡ grantOf g others u i
     unfolding grantOf instanceAt
-    alike-grant i h w = rw (alike-next i h w, alike-done i h, a .id i h, a .period i h, same i h, b .slot)
+    alike-grant i h w = rw (alike-next i h w, b .done i h, a .id i h, a .period i h, same i h, b .slot)
 
     module _ (m : k ≤ f .flows) (n : k ≤ g .flows) where
       pub alike-among : (i : ℕ) → i < k → among (granted f firsts s) i ≡ among (granted g others u) i
@@ -96,7 +106,7 @@ module _
       alike-on =
           record {
             slot = ap suc (b .slot);
-            done = λ i h. ap₂ (λ (d : ℕ) (goes : Bool). d + one goes) (alike-done i h) (alike-among i h);
+            done = λ i h. ap₂ (λ (d : ℕ) (goes : Bool). d + one goes) (b .done i h) (alike-among i h);
           }
 
     -- where there are no other flows, the slot is the same
@@ -125,11 +135,16 @@ pub record SamePrefix (k : ℕ) (f g : Facts) (s u : State) : Type 0 where
   pub bytes : (i : ℕ) → i < k → among (granted f (f .phase) s) i ≡ true → grantOf f (f .phase) s i ≡ grantOf g (g .phase) u i
 
 module _ (k : ℕ) (f g : Facts) (a : Alike k f g) (m : k ≤ f .flows) (n : k ≤ g .flows) where
+  level-on : (s u : State) → Abreast k s u → Level k f g (f .phase) (g .phase) s u
+  level-on s u b = alike-level k f g a (f .phase) (g .phase) (a .phase) s u b
+
   pub prefix-abreast : (t : ℕ) → Abreast k (runTo f (f .phase) t) (runTo g (g .phase) t)
   unfolding runTo atStart
   prefix-abreast zero = record { slot = refl; done = a .len }
   prefix-abreast (suc t) =
-      alike-on k f g a (f .phase) (g .phase) (a .phase) (runTo f (f .phase) t) (runTo g (g .phase) t) (prefix-abreast t) m n
+      let s : State = runTo f (f .phase) t in
+      let u : State = runTo g (g .phase) t in
+      alike-on k f g a (f .phase) (g .phase) (a .phase) s u (level-on s u (prefix-abreast t)) m n
 
   pub prefix-runs : (t : ℕ) → SamePrefix k f g (runTo f (f .phase) t) (runTo g (g .phase) t)
   unfolding granted
@@ -137,9 +152,9 @@ module _ (k : ℕ) (f g : Facts) (a : Alike k f g) (m : k ≤ f .flows) (n : k �
       let s : State = runTo f (f .phase) t in
       let u : State = runTo g (g .phase) t in
       record {
-        goes = alike-among k f g a (f .phase) (g .phase) (a .phase) s u (prefix-abreast t) m n;
+        goes = alike-among k f g a (f .phase) (g .phase) (a .phase) s u (level-on s u (prefix-abreast t)) m n;
         bytes =
             λ i h e.
-            alike-grant k f g a (f .phase) (g .phase) (a .phase) s u (prefix-abreast t) i h
+            alike-grant k f g a (f .phase) (g .phase) (a .phase) s u (level-on s u (prefix-abreast t)) i h
             (going-below (greedy f (f .phase) s) (unfinished f (f .phase) s) (f .flows) i e .1);
       }

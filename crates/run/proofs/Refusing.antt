@@ -17,7 +17,7 @@ use Rattle.trade.specs.Answers.{done, refused, isDone, given}
 use Rattle.trade.specs.Codes.{badPlace, overrun, code10, code11, code12}
 use Rattle.trade.specs.declared.state.Run.{Run}
 use Rattle.trade.specs.declared.answer.Answer.{Answer}
-use Rattle.trade.proofs.First.{bool-cases}
+use Rattle.trade.proofs.First.{bool-cases, lt-or-ge}
 use Rattle.trade.proofs.Answers.{given-passed, givenFirst-passed, givenFirst-at, givenFirst-none}
 use Rattle.run.specs.States.{placeOf, stateOf}
 use Rattle.run.specs.Turns.{releasedAt}
@@ -113,3 +113,20 @@ module _ (f : Facts) (s : State) where
   pub unused-zero : runAnswer f s .code ≡ 0 → (i : ℕ) → i < mostFlows → f .flows ≤ i → s .done i ≡ 0
   unfolding badPlace
   unused-zero e i h l = eqb-true (s .done i) 0 (not-false _ (rw (le-ltb i (f .flows) l) at (places-good e i h)))
+
+  -- a run that no flow and no unused place gives a reason to refuse, in a slot that runs, passes all three
+  pub run-clear :
+      s .slot ≤ lastSlot
+      → ((i : ℕ) → i < f .flows → badPlace f s i ≡ false)
+      → ((i : ℕ) → f .flows ≤ i → i < mostFlows → s .done i ≡ 0)
+      → ((i : ℕ) → i < f .flows → overrun f s i ≡ false)
+      → runAnswer f s ≡ done 0
+  unfolding badPlace
+  run-clear early good unused timely =
+      run-overrun (ap (λ (r : Answer). r .code) (code10-none f s (omega arith) places)) (λ e. omega arith) ∙ code11-none f s timely
+    where
+      places : (i : ℕ) → i < mostFlows → badPlace f s i ≡ false
+      places i h =
+          ⊎-elim (good i)
+          (λ (l : f .flows ≤ i). rw (le-ltb i (f .flows) l, eq-eqb (s .done i) 0 (unused i l h)))
+          (lt-or-ge i (f .flows))

@@ -47,6 +47,7 @@ module _ (f : Facts) (firsts : ℕ → ℕ) (run : Run) (lent : List ℕ) (r r' 
     one-result (p .grants) (q .grants),
   )
 
+-- advance leaves what its slot leaves, so that has one result too
 pub run-slot-unique : (κs : _) (a : _) (r r' : _) (s s' : _) → run-slot.Post κs a r s → run-slot.Post κs a r' s' → (r ≡ r') × (now (s .1 .1 .1 .1 .1 .1 .0) ≡ now (s' .1 .1 .1 .1 .1 .1 .0))
 run-slot-unique κs a r r' s s' p q = ran-unique _ _ _ _ r r' _ _ p q
 

@@ -3,4 +3,5 @@ pub mod States
 pub mod Turns
 pub mod Slots
 pub mod Refusals
+pub mod Dues
 pub mod Calls

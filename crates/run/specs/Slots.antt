@@ -5,10 +5,14 @@ use mathlib.Core.List.{List}
 use lib.ListN.{length}
 use Rattle.trade.specs.Bytes.{over}
 use Rattle.trade.specs.Facts.{Facts}
-use Rattle.trade.specs.Slot.{granted, grantOf, grantsOf, nextState}
+use Rattle.trade.specs.Slot.{State, doneNow, granted, grantOf, grantsOf, nextState}
 use Rattle.trade.specs.declared.state.Run.{Run}
 use Rattle.run.specs.States.{stateOf, placeOf}
 use Rattle.run.specs.declared.slot.Outcome.{Outcome}
+
+-- a run has the releases of its slot: each flow's steps done are those after them
+unfoldable pub Released : Facts → (ℕ → ℕ) → State → Type 0
+Released f firsts s = (i : ℕ) → i < f .flows → doneNow f firsts s i ≡ s .done i
 
 -- what a slot does: the grants are those of the flows granted, in the buffer and in number; each flow is where it goes on; other places
 -- stay; and the slot is the next

@@ -1,12 +1,13 @@
 -- One flow's turn in a slot. Leans on States, and on the grant set of plans.
 use Prim.Native.Nat.{ℕ, _+_, _-_, _*_, _/_, _%_, _≤_, _<_}
 use mathlib.Core.Path.{_≡_}
-use mathlib.Core.Bool.{Bool, true, false, cond, not, _&&_}
+use mathlib.Core.Bool.{Bool, true, false, not, _&&_}
 use mathlib.Core.List.{List}
 use lib.Dec.{eqb, leb, ltb}
 use lib.ListN.{length}
 use Rattle.trade.specs.Limits.{mostSteps, stepBytes, grantBytes}
 use Rattle.trade.specs.Facts.{stepIn}
+use Rattle.trade.specs.declared.clock.Slot.{Slot}
 use Rattle.trade.specs.declared.flow.Flow.{Flow}
 use Rattle.trade.specs.declared.node.Transmission.{Transmission}
 use Rattle.trade.specs.declared.state.Grant.{Grant}
@@ -27,17 +28,14 @@ releasedAt first period slot = leb first slot && eqb ((slot - first) % period) 0
 unfoldable pub instanceBy : ℕ → ℕ → ℕ → ℕ
 instanceBy first period slot = (slot - first) / period
 
--- the steps done after the slot's releases: a release sets them to 0
-unfoldable pub doneAfter : ℕ → ℕ → ℕ → ℕ → ℕ
-doneAfter first period slot before = cond (releasedAt first period slot) 0 before
-
 -- a flow as it stands after the releases of a slot
-unfoldable pub turnOf : Flow → ℕ → ℕ → Progress → ℕ → Turn
-turnOf flow first slot before start =
+unfoldable pub turnOf : Flow → ℕ → Slot → Progress → ℕ → Turn
+turnOf flow first slot p start =
     record {
       flow = flow;
-      instance = record { 0 = instanceBy first (flow .period) slot };
-      done = record { 0 = doneAfter first (flow .period) slot (before .done .0) };
+      first = record { 0 = first };
+      slot = slot;
+      done = p .done;
       start = start;
     }
 
@@ -52,11 +50,17 @@ goesNow rows steps turn made = ltb (turn .done .0) (turn .flow .len) && not (cla
 -- the grant of its next step
 unfoldable pub grantNow : List ℕ → Turn → Grant
 grantNow steps turn =
-    record { id = turn .flow .id; instance = turn .instance; step = turn .done; transmission = nextOf steps turn }
+    record {
+      id = turn .flow .id;
+      instance = record { 0 = instanceBy (turn .first .0) (turn .flow .period) (turn .slot .0) };
+      step = turn .done;
+      transmission = nextOf steps turn;
+    }
 
 -- what a turn asks: while the flow is unfinished, its next step is one of the section and stays in the network, and there is room for
 -- one more grant
 pub record Room (rows steps : List ℕ) (turn : Turn) (made : Made) (room : ℕ) : Type 0 where
+  pub period : 0 < turn .flow .period
   pub len : turn .flow .len ≤ mostSteps
   pub step : turn .done .0 < turn .flow .len → stepBytes * (turn .start + turn .done .0) + 1 < length steps
   pub within : turn .done .0 < turn .flow .len → Within rows (nextOf steps turn)

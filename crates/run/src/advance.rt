@@ -1,38 +1,17 @@
 // ADVANCE a run by one slot.
-ghost use mathlib.Core.Path.{_≡_};
-ghost use Prim.Native.Nat.{ℕ, _*_, _≤_, _<_};
-ghost use lib.ListN.{length, getD};
-ghost use Rattle.trade.specs.Limits.{mostFlows, recordBytes};
-ghost use Rattle.trade.specs.Layout.{field};
 ghost use Rattle.run.specs.Calls.{Advances};
 use crate::area::read_run;
 use crate::area::write_run;
-use crate::refusals::run_answer;
+use crate::due::due_in;
+use crate::refusals::answer_in_doubt;
 use crate::slot::run_slot;
 use book::parts::open_book;
 use book::parts::records_of;
 use book::parts::rows_of;
 use book::parts::steps_of;
-use book::records::record_at;
 use trade::Answer;
-use trade::Flow;
 use trade::Grant;
 use trade::Run;
-
-// The first releases: today, each flow's phase.
-fn firsts_of(flows: usize, records: &[u8]) -> [u32; Flow::MOST]
-    requires { ⌜ (flows ≤ mostFlows) × (recordBytes * flows ≤ length (now records)) ⌝ }
-    ensures { λ r. ⌜ ((i : ℕ) → i < flows → getD r i 0 ≡ field (now (records .entry)) i 1) ⌝ }
-{
-    let mut firsts = [0u32; Flow::MOST];
-    let mut i = 0;
-    while i < flows {
-        let flow = record_at(records, i);
-        firsts[i] = flow.phase as u32;
-        i += 1;
-    }
-    firsts
-}
 
 // Codes 1 to 8, 13, 10, 12 and 11 are tested before anything is written, so a refused call leaves both buffers as lent. Then the slot's
 // grants go into one buffer, and the run as it goes on into the other.
@@ -55,18 +34,19 @@ pub fn advance(book: &[u8], area: &mut [u8], grants: &mut [u8]) -> Answer
     }
     let records = records_of(book, f);
     let run = read_run(area);
-    let refusal = run_answer(flows, records, run);
+    let due = due_in(flows, records, run);
+    let refusal = answer_in_doubt(due.doubt, flows, records, run);
     if refusal.code != 0 {
         return refusal;
     }
-    let firsts = firsts_of(flows, records);
+    let released = due.run;
     let out = run_slot(
         flows,
         rows_of(book, f),
         records,
         steps_of(book, f),
-        &firsts,
-        run,
+        &due.firsts,
+        released,
         grants,
     );
     let next = out.run;

@@ -3,23 +3,16 @@ ghost use mathlib.Core.Path.{_≡_};
 ghost use Prim.Native.Nat.{_≤_};
 ghost use lib.ListN.{length};
 ghost use Rattle.trade.specs.Limits.{areaBytes, mostFlows};
-ghost use Rattle.trade.specs.Bytes.{fourBytes, over};
-ghost use Rattle.trade.specs.Area.{stateIn, areaOf};
+ghost use Rattle.trade.specs.Bytes.{over};
+ghost use Rattle.trade.specs.Area.{areaOf};
 ghost use Rattle.run.specs.States.{stateOf, Reads};
-use book::numbers::word_at;
+use crate::four::four_at;
+use crate::four::put_four;
 use trade::Flow;
 use trade::Progress;
 use trade::Run;
 use trade::Slot;
 use trade::Step;
-
-// The slot to run next: the first four bytes.
-fn slot_at(area: &[u8]) -> Slot
-    requires { ⌜ areaBytes ≤ length (now area) ⌝ }
-    ensures { λ r. ⌜ r .0 ≡ stateIn (now (area .entry)) .slot ⌝ }
-{
-    Slot((word_at(area, 0) as u32) * 65_536 + (word_at(area, 2) as u32))
-}
 
 // The run that an area holds.
 pub(crate) fn read_run(area: &[u8]) -> Run
@@ -35,22 +28,9 @@ pub(crate) fn read_run(area: &[u8]) -> Run
         i += 1;
     }
     Run {
-        slot: slot_at(area),
+        slot: Slot(four_at(area)),
         flows,
     }
-}
-
-// A slot in its four bytes.
-fn put_slot(area: &mut [u8], slot: Slot)
-    requires { ⌜ areaBytes ≤ length (now area) ⌝ }
-    ensures { λ _. ⌜ now (area .exit) ≡ over (fourBytes (slot .0)) (now (area .entry)) ⌝ }
-{
-    let high = slot.0 / 65_536;
-    let low = slot.0 % 65_536;
-    area[0] = (high / 256 % 256) as u8;
-    area[1] = (high % 256) as u8;
-    area[2] = (low / 256 % 256) as u8;
-    area[3] = (low % 256) as u8;
 }
 
 // A run written into the front of an area. The bytes past it stay.
@@ -58,7 +38,7 @@ pub(crate) fn write_run(area: &mut [u8], run: Run)
     requires { ⌜ areaBytes ≤ length (now area) ⌝ }
     ensures { λ _. ⌜ now (area .exit) ≡ over (areaOf mostFlows (stateOf run)) (now (area .entry)) ⌝ }
 {
-    put_slot(area, run.slot);
+    put_four(area, run.slot.0);
     let flows = run.flows;
     let mut i = 0;
     while i < Flow::MOST {

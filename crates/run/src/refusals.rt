@@ -1,11 +1,13 @@
 // Why a run is refused: codes 10, 12 and 11, in that order.
 ghost use mathlib.Core.Path.{_≡_};
+ghost use mathlib.Core.Bool.{false};
 ghost use mathlib.Core.List.{[]};
 ghost use Prim.Native.Nat.{ℕ, _*_, _≤_, _<_};
 ghost use lib.ListN.{length};
 ghost use Rattle.trade.specs.Limits.{mostFlows, recordBytes};
 ghost use Rattle.trade.specs.Layout.{field};
 ghost use Rattle.trade.specs.Facts.{factsIn};
+ghost use Rattle.trade.specs.Answers.{done};
 ghost use Rattle.trade.specs.Codes.{badPlace, code10, code11};
 ghost use Rattle.run.specs.States.{stateOf};
 ghost use Rattle.run.specs.Refusals.{placeAt, overrunAt, runAnswer};
@@ -19,7 +21,7 @@ use trade::Run;
 use trade::Slot;
 
 // Whether a place is bad: its byte exceeds its L, or is not 0 where it is unused, or is not L where the phase is not before the slot.
-fn is_bad_place(flows: usize, records: &[u8], slot: Slot, i: usize, p: Progress) -> bool
+pub(crate) fn is_bad_place(flows: usize, records: &[u8], slot: Slot, i: usize, p: Progress) -> bool
     requires { ⌜ recordBytes * flows ≤ length (now records) ⌝ }
     ensures { λ r. ⌜ r ≡ badPlace (factsIn 0 flows [] (now (records .entry)) []) (placeAt slot p) i ⌝ }
 {
@@ -89,4 +91,15 @@ pub(crate) fn run_answer(flows: usize, records: &[u8], run: Run) -> Answer
         return Answer::refused(12, 0);
     }
     overrun_answer(flows, records, run)
+}
+
+// The same, asked only in doubt: where one look at all flows has left none, none of the three is given.
+pub(crate) fn answer_in_doubt(doubt: bool, flows: usize, records: &[u8], run: Run) -> Answer
+    requires { ⌜ (recordBytes * flows ≤ length (now records)) × ((i : ℕ) → i < flows → 0 < field (now records) i 2) × (flows ≤ mostFlows) × (doubt ≡ false → runAnswer (factsIn 0 flows [] (now records) []) (stateOf run) ≡ done 0) ⌝ }
+    ensures { λ r. ⌜ r ≡ runAnswer (factsIn 0 flows [] (now (records .entry)) []) (stateOf run) ⌝ }
+{
+    if doubt {
+        return run_answer(flows, records, run);
+    }
+    Answer::done(0)
 }

@@ -1,31 +1,30 @@
-// One slot: releases, then the choice in record order.
+// One slot after its releases: the choice in record order.
 ghost use mathlib.Core.Path.{_≡_};
-ghost use Prim.Native.Nat.{_*_, _≤_, _<_};
+ghost use Prim.Native.Nat.{_*_, _≤_};
 ghost use lib.ListN.{length, getD};
 ghost use Rattle.trade.specs.Limits.{mostFlows, grantBytes, lastSlot};
 ghost use Rattle.trade.specs.Facts.{factsIn};
 ghost use Rattle.admission.specs.Formed.{Formed};
+ghost use Rattle.run.specs.States.{stateOf};
 ghost use Rattle.run.specs.Turns.{turnOf, Room, Turned};
-ghost use Rattle.run.specs.Slots.{Ran};
+ghost use Rattle.run.specs.Slots.{Released, Ran};
 use crate::release::instance_at;
-use crate::release::is_released;
 use crate::writer::write_grant;
 use book::records::record_at;
 use plans::grants::GrantSet;
 use plans::steps::step_at;
 use trade::Flow;
 use trade::Grant;
-use trade::Instance;
 use trade::Progress;
 use trade::Run;
 use trade::Slot;
 use trade::Step;
 
-// A flow's turn in a slot, after the slot's releases: the steps done by its latest instance, which instance that is, and where its plan
-// starts.
+// A flow's turn in a slot, after the slot's releases: its first release, the steps done by its latest instance, and where its plan starts.
 pub struct Turn {
     pub flow: Flow,
-    pub instance: Instance,
+    pub first: Slot,
+    pub slot: Slot,
     pub done: Step,
     pub start: usize,
 }
@@ -48,19 +47,15 @@ pub struct Outcome {
     pub count: usize,
 }
 
-// A flow as it stands after the releases of a slot.
-fn turn_of(flow: Flow, first: Slot, slot: Slot, before: Progress, start: usize) -> Turn
-    requires { ⌜ 0 < flow .period ⌝ }
-    ensures { λ r. ⌜ r ≡ turnOf flow (first .0) (slot .0) before start ⌝ }
+// The turn of a flow that is so far.
+fn turn_of(flow: Flow, first: Slot, slot: Slot, p: Progress, start: usize) -> Turn
+    ensures { λ r. ⌜ r ≡ turnOf flow (first .0) slot p start ⌝ }
 {
-    let done = if is_released(first, flow.period, slot) {
-        Step(0)
-    } else {
-        before.done
-    };
+    let done = p.done;
     Turn {
         flow,
-        instance: instance_at(first, flow.period, slot),
+        first,
+        slot,
         done,
         start,
     }
@@ -81,7 +76,7 @@ fn take_turn(rows: &[u8], steps: &[u8], turn: Turn, made: Made, grants: &mut [u8
         return Taken { made, done };
     }
     let at = Grant::BYTES * made.count;
-    let instance = turn.instance;
+    let instance = instance_at(turn.first, turn.flow.period, turn.slot);
     let grant = Grant {
         id: turn.flow.id,
         instance,
@@ -98,8 +93,9 @@ fn take_turn(rows: &[u8], steps: &[u8], turn: Turn, made: Made, grants: &mut [u8
     }
 }
 
-// One slot of a run, over the sections of a book and the first release of each flow: the grants go into the lent buffer.
-pub fn run_slot(
+// One slot of a run that has its releases, over the sections of a book and the first release of each flow: the grants go into the lent
+// buffer.
+pub(crate) fn run_slot(
     flows: usize,
     rows: &[u8],
     records: &[u8],
@@ -108,7 +104,7 @@ pub fn run_slot(
     run: Run,
     grants: &mut [u8],
 ) -> Outcome
-    requires { ⌜ Formed flows (now rows) (now records) (now steps) × (grantBytes * flows ≤ length (now grants)) × (run .slot .0 ≤ lastSlot) × (length (run .flows) ≡ mostFlows) ⌝ }
+    requires { ⌜ Formed flows (now rows) (now records) (now steps) × (grantBytes * flows ≤ length (now grants)) × (run .slot .0 ≤ lastSlot) × (length (run .flows) ≡ mostFlows) × Released (factsIn 0 flows (now rows) (now records) (now steps)) (λ i. getD (now firsts) i 0) (stateOf run) ⌝ }
     ensures { λ r. ⌜ Ran (factsIn 0 flows (now (rows .entry)) (now (records .entry)) (now (steps .entry))) (λ i. getD (now (firsts .entry)) i 0) run (now (grants .entry)) r (now (grants .exit)) ⌝ }
 {
     let slot = run.slot;

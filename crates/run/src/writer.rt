@@ -5,6 +5,7 @@ ghost use lib.ListN.{length};
 ghost use Rattle.trade.specs.Limits.{grantBytes};
 ghost use Rattle.trade.specs.Bytes.{over};
 ghost use Rattle.run.specs.States.{bytesOf};
+use crate::four::put_four;
 use trade::Grant;
 
 // A grant in the nine bytes that a part of the lent buffer starts with: id, instance, step, sender, receiver.
@@ -12,14 +13,9 @@ pub fn write_grant(part: &mut [u8], g: Grant)
     requires { ⌜ grantBytes ≤ length (now part) ⌝ }
     ensures { λ _. ⌜ now (part .exit) ≡ over (bytesOf g) (now (part .entry)) ⌝ }
 {
-    let high = g.instance.0 / 65_536;
-    let low = g.instance.0 % 65_536;
     part[0] = (g.id / 256 % 256) as u8;
     part[1] = (g.id % 256) as u8;
-    part[2] = (high / 256 % 256) as u8;
-    part[3] = (high % 256) as u8;
-    part[4] = (low / 256 % 256) as u8;
-    part[5] = (low % 256) as u8;
+    put_four(&mut part[2..], g.instance.0);
     part[6] = g.step.0;
     part[7] = g.transmission.sender.0;
     part[8] = g.transmission.receiver.0;

@@ -49,14 +49,15 @@ loop-again c =
           (stored (loop .flows) (loop .i) _ (omega arith)),
     )
 
-slot-at-requires : tie.Need-slot-at-requires Inv-loop μ-loop
-slot-at-requires c κs = search needs
+four-at-requires : tie.Need-four-at-requires Inv-loop μ-loop
+four-at-requires c κs = search needs
 
 returns : tie.Need-returns Inv-loop μ-loop
+unfolding stateIn
 returns c =
     let loop = c .before .before .loop in
     record {
-      slot = c .slot-at .ensures;
+      slot = c .four-at .ensures;
       size = loop .inv .1;
       places = λ i h. loop .inv .2 i (omega arith);
     }
@@ -74,5 +75,5 @@ read-run-spec =
     add-i
     loop-less
     loop-again
-    slot-at-requires
+    four-at-requires
     returns)

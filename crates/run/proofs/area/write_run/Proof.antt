@@ -22,13 +22,13 @@ Inv-loop area₀ flows i₀ area i =
 abbrev μ-loop : tie.MeasureT-loop
 μ-loop area₀ flows i₀ area i = mostFlows - i
 
-put-slot-requires : tie.Need-put-slot-requires Inv-loop μ-loop
-put-slot-requires c κs = search needs
+put-four-requires : tie.Need-put-four-requires Inv-loop μ-loop
+put-four-requires c κs = search needs
 
 loop-holds : tie.Need-loop-holds Inv-loop μ-loop
 loop-holds c =
     let start = c .before .before .before .before .before .before in
-    let put = c .before .before .before .put-slot in
+    let put = c .before .before .before .put-four in
     (omega arith, omega (arith, put .kept .0, start .pre), store-none slotBytes (placeOf (start .args .run .flows)) (put .last .0))
 
 array-copy-out-p : tie.Need-array-copy-out-p Inv-loop μ-loop
@@ -57,14 +57,14 @@ loop-again c =
 same-length : tie.Need-same-length Inv-loop μ-loop
 same-length c =
     let loop = c .before .loop in
-    store-length slotBytes _ _ (loop .i) (loop .area) (loop .inv .2) (omega arith) ∙ c .before .before .before .before .before .put-slot .kept .0
+    store-length slotBytes _ _ (loop .i) (loop .area) (loop .inv .2) (omega arith) ∙ c .before .before .before .before .before .put-four .kept .0
 
 returns : tie.Need-returns Inv-loop μ-loop
 unfolding stateOf
 returns c =
     let a = c .before .before .before .before .before .before .before .before .args in
     let loop = c .before .loop in
-    let put = c .before .before .before .before .before .put-slot in
+    let put = c .before .before .before .before .before .put-four in
     let all : loop .i ≡ mostFlows = omega arith in
     loop .inv .2
     ∙ ap (λ (n : ℕ). pastedAt slotBytes (listTo (placeOf (a .run .flows)) n) (put .last .0)) all
@@ -77,7 +77,7 @@ write-run-spec =
     (tie.spec
     Inv-loop
     μ-loop
-    put-slot-requires
+    put-four-requires
     loop-holds
     array-copy-out-p
     add-area

@@ -32,14 +32,14 @@ abbrev μ-loop : tie.MeasureT-loop
 turning :
     (c : tie.After-turn-of Inv-loop μ-loop)
     → c .turn-of .result
-    ≡ turnOf (flowIn (now (c .before .before .before .before .before .before .before .before .before .before .before .before .before .args .records)) (c .before .before .before .before .before .loop .i)) (getD (now (c .before .before .before .before .before .before .before .before .before .before .before .before .before .args .firsts)) (c .before .before .before .before .before .loop .i) 0) (c .before .before .before .before .before .before .before .before .before .before .before .before .before .args .run .slot .0)
+    ≡ turnOf (flowIn (now (c .before .before .before .before .before .before .before .before .before .before .before .before .before .args .records)) (c .before .before .before .before .before .loop .i)) (getD (now (c .before .before .before .before .before .before .before .before .before .before .before .before .before .args .firsts)) (c .before .before .before .before .before .loop .i) 0) (c .before .before .before .before .before .before .before .before .before .before .before .before .before .args .run .slot)
     (getD (c .before .before .before .before .before .loop .places) (c .before .before .before .before .before .loop .i) (idleOf 0))
     (firstStep (factsIn 0 (c .before .before .before .before .before .before .before .before .before .before .before .before .before .args .flows) (now (c .before .before .before .before .before .before .before .before .before .before .before .before .before .args .rows)) (now (c .before .before .before .before .before .before .before .before .before .before .before .before .before .args .records)) (now (c .before .before .before .before .before .before .before .before .before .before .before .before .before .args .steps))) (c .before .before .before .before .before .loop .i))
 turning c =
     let a = c .before .before .before .before .before .before .before .before .before .before .before .before .before .args in
     let loop = c .before .before .before .before .before .loop in
     c .turn-of .ensures
-    ∙ ap₂ (λ (w : Flow) (s : ℕ). turnOf w (getD (now (a .firsts)) (loop .i) 0) (a .run .slot .0) (getD (loop .places) (loop .i) (idleOf 0)) s)
+    ∙ ap₂ (λ (w : Flow) (s : ℕ). turnOf w (getD (now (a .firsts)) (loop .i) 0) (a .run .slot) (getD (loop .places) (loop .i) (idleOf 0)) s)
     (c .before .before .before .record-at .ensures)
     (loop .inv .1)
 
@@ -83,8 +83,7 @@ array-copy-out-turn-of : tie.Need-array-copy-out-turn-of Inv-loop μ-loop
 array-copy-out-turn-of c = search needs
 
 turn-of-requires : tie.Need-turn-of-requires Inv-loop μ-loop
-unfolding flowIn
-turn-of-requires c κs = rw (c .before .before .record-at .ensures) (c .before .before .before .before .before .before .before .before .before .before .before .before .pre .0 .fields (c .before .before .before .before .loop .i) (c .before .before .before .loop-test .taken) .period .0)
+turn-of-requires c κs = search needs
 
 take-turn-requires : tie.Need-take-turn-requires Inv-loop μ-loop
 take-turn-requires c κs =
@@ -92,7 +91,7 @@ take-turn-requires c κs =
     let a = start .args in
     let loop = c .before .before .before .before .before .before .loop in
     rw (turning (c .before))
-    (turn-room (a .flows) (now (a .rows)) (now (a .records)) (now (a .steps)) (λ k. getD (now (a .firsts)) k 0) (a .run) (start .pre .0) (loop .i)
+    (turn-room (a .flows) (now (a .rows)) (now (a .records)) (now (a .steps)) (λ k. getD (now (a .firsts)) k 0) (a .run) (start .pre .0) (start .pre .4) (loop .i)
     (c .before .before .before .before .before .loop-test .taken) (now (a .grants)) (loop .places) (loop .made) (loop .grants) (loop .inv .2) (start .pre .1))
 
 array-set-from-places : tie.Need-array-set-from-places Inv-loop μ-loop
@@ -121,7 +120,7 @@ loop-again c =
       omega (arith, taken),
       rw (add-one (loop .i), sum-next len (loop .i)) (ap₂ _+_ (loop .inv .1) (ap (λ (w : Flow). w .len) (c .before .before .before .before .before .before .before .before .before .before .record-at .ensures))),
       rw (add-one (loop .i))
-          (chosen-next (a .flows) (now (a .rows)) (now (a .records)) (now (a .steps)) (λ k. getD (now (a .firsts)) k 0) (a .run) (start .pre .0) (loop .i) taken
+          (chosen-next (a .flows) (now (a .rows)) (now (a .records)) (now (a .steps)) (λ k. getD (now (a .firsts)) k 0) (a .run) (start .pre .0) (start .pre .4) (loop .i) taken
           (now (a .grants)) (loop .places) (loop .made) (loop .grants) (loop .inv .2) (c .before .before .before .before .before .take-turn .result) _
           (omega (arith, taken, start .pre .0 .most, loop .inv .2 .size, start .pre .3)) (rw (turning (c .before .before .before .before .before .before .before)) at (c .before .before .before .before .before .take-turn .ensures))),
     )

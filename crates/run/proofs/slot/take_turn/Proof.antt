@@ -1,10 +1,10 @@
 -- `run::slot::take_turn`: a flow that has finished waits, one whose next step clashes waits, and any other goes. Assumes nothing.
 use Prim.Native.Nat.{ℕ, _-_, _*_}
-use mathlib.Core.Path.{_≡_, sym, _∙_, ap}
+use mathlib.Core.Path.{_≡_, sym, _∙_, ap, ap₂}
 use mathlib.Core.List.{List}
 use native.Mathlib.Omega.{arith}
 use denote.Ref.{now}
-use lib.ListN.{length, take, drop}
+use lib.ListN.{length, take, drop, length-take, length-drop}
 use borrow.Rule.Slice.PartMut.{putMid}
 use Rattle.trade.specs.Limits.{grantBytes}
 use Rattle.trade.specs.Bytes.{over, twoBytes, fourBytes}
@@ -47,7 +47,8 @@ wrote c =
     let at : ℕ = grantBytes * a .made .count in
     ap (putMid at (length d - at) d)
     (c .write-grant .ensures
-    ∙ ap (λ (t : Transmission). over (bytesOf (record { id = a .turn .flow .id; instance = a .turn .instance; step = a .turn .done; transmission = t })) (take (length d - at) (drop at d)))
+    ∙ ap₂ (λ (v : ℕ) (t : Transmission). over (bytesOf (record { id = a .turn .flow .id; instance = record { 0 = v }; step = a .turn .done; transmission = t })) (take (length d - at) (drop at d)))
+    (c .before .before .instance-at .ensures)
     (c .before .before .before .before .before .before .before .step-at .ensures))
     ∙ pasted-over at (bytesOf (grantNow (now (a .steps)) (a .turn))) d (start .pre .grant)
 
@@ -81,17 +82,20 @@ returns-2 c =
 mul-at : tie.Need-mul-at
 mul-at c = omega (arith, c .before .before .before .before .before .before .before .before .before .before .before .before .before .before .pre .grant, c .before .before .before .before .before .before .before .before .before .before .before .before .before .before .good .1 .1 .1 .1 .0 .0)
 
+instance-at-requires : tie.Need-instance-at-requires
+instance-at-requires c κs = c .before .before .before .before .before .before .before .before .before .before .before .before .before .before .pre .period
+
 sub-write-grant : tie.Need-sub-write-grant
-sub-write-grant c = search needs
+sub-write-grant c = omega (arith, c .before .before .before .before .before .before .before .before .before .before .before .before .before .before .before .pre .grant)
 
 part-write-grant-start : tie.Need-part-write-grant-start
-part-write-grant-start c = search needs
+part-write-grant-start c = omega (arith, c .before .before .before .before .before .before .before .before .before .before .before .before .before .before .before .pre .grant)
 
 part-write-grant-end : tie.Need-part-write-grant-end
 part-write-grant-end c = search needs
 
 write-grant-requires : tie.Need-write-grant-requires
-write-grant-requires c κs = search needs
+write-grant-requires c κs = simp (length-take, length-drop) (omega (arith, c .before .before .before .before .before .before .before .before .before .before .before .before .before .before .before .before .pre .grant))
 
 with-requires : tie.Need-with-requires
 unfolding nextOf
@@ -124,6 +128,7 @@ take-turn-spec =
     clashes-requires
     returns-2
     mul-at
+    instance-at-requires
     sub-write-grant
     part-write-grant-start
     part-write-grant-end

@@ -12,7 +12,6 @@ ghost use Rattle.admission.specs.Kept.{Ready};
 ghost use Rattle.admission.specs.Bounds.{refusedBy, boundedBy};
 use crate::figures::figures_at;
 use crate::figures::keep;
-use crate::figures::plan_at;
 use crate::rising::smallest;
 use book::records::record_at;
 use plans::columns::disturbers;
@@ -71,7 +70,7 @@ fn bounds_with(
     rows: &[u8],
     records: &[u8],
     steps: &[u8],
-    disturbers: &[u64; Node::MOST],
+    disturbers: &[u64],
     columns: &mut [u64],
 ) -> Checked
     requires { ⌜ Formed flows (now rows) (now records) (now steps) × ((x : ℕ) → getD (now columns) x 0 ≡ 0) ⌝ }
@@ -91,7 +90,7 @@ fn bounds_with(
         bounds[l] = bound as u16;
         periods[l] = flow.period as u32;
         carries[l] = flow.deadline as u32;
-        keep(rows, disturbers, plan_at(records, steps, l), l, columns);
+        keep(rows, disturbers, records, steps, l, columns);
         l += 1;
     }
     Checked {
@@ -112,9 +111,9 @@ pub fn bounds_of(flows: usize, rows: &[u8], records: &[u8], steps: &[u8]) -> Che
     ensures { λ r. ⌜ r ≡ boundedBy (factsIn 0 flows (now (rows .entry)) (now (records .entry)) (now (steps .entry))) ⌝ }
 {
     if steps.len() <= FEW {
-        let unknown = [0u64; Node::MOST];
+        let unknown = [0u64; 1];
         let mut none = [0u64; 1];
-        return bounds_with(flows, rows, records, steps, &unknown, &mut none[..0]);
+        return bounds_with(flows, rows, records, steps, &unknown[..0], &mut none[..0]);
     }
     let known = disturbers(rows);
     if flows <= SOME + 1 {

@@ -2,12 +2,11 @@
 ghost use mathlib.Core.Path.{_≡_};
 ghost use Prim.Native.Nat.{ℕ, _+_, _*_, _≤_, _<_};
 ghost use lib.ListN.{length, getD};
-ghost use Rattle.trade.specs.Limits.{recordBytes, stepBytes, mostFlows, mostNodes, mostSteps};
+ghost use Rattle.trade.specs.Limits.{recordBytes, stepBytes, mostFlows, mostNodes};
 ghost use Rattle.trade.specs.First.{listTo};
 ghost use Rattle.trade.specs.Bytes.{padded};
 ghost use Rattle.trade.specs.Facts.{factsIn, stepIn};
 ghost use Rattle.trade.specs.Interference.{interference};
-ghost use Rattle.plans.specs.Network.{AllWithin};
 ghost use Rattle.admission.specs.Formed.{Formed, planAt};
 ghost use Rattle.admission.specs.Kept.{figureBy, KeptMore, Ready};
 use book::records::len_at;
@@ -20,7 +19,7 @@ use trade::Flow;
 use trade::Node;
 
 // The plan of a flow.
-pub(crate) fn plan_at<'a>(records: &[u8], steps: &'a [u8], l: usize) -> &'a [u8]
+fn plan_at<'a>(records: &[u8], steps: &'a [u8], l: usize) -> &'a [u8]
     requires { ⌜ (l < mostFlows) × (recordBytes * l + recordBytes ≤ length (now records)) ⌝ }
     ensures { λ r. ⌜ now r ≡ planAt (now (records .entry)) (now (steps .entry)) l ⌝ }
 {
@@ -81,17 +80,20 @@ pub(crate) fn figures_at(
 // The columns of plan l, kept behind those of the plans above it if there is room for them.
 pub(crate) fn keep(
     rows: &[u8],
-    disturbers: &[u64; Node::MOST],
-    plan: &[u8],
+    disturbers: &[u64],
+    records: &[u8],
+    steps: &[u8],
     l: usize,
     columns: &mut [u64],
 )
-    requires { ⌜ (l < mostFlows) × (length (now plan) ≤ stepBytes * mostSteps) × AllWithin (now rows) (now plan) × ((x : ℕ) → mostNodes * l ≤ x → getD (now columns) x 0 ≡ 0) ⌝ }
-    ensures { λ _. ⌜ KeptMore (now (rows .entry)) (now (disturbers .entry)) (now (plan .entry)) l (now (columns .entry)) (now (columns .exit)) ⌝ }
+    requires { ⌜ Formed (l + 1) (now rows) (now records) (now steps) × ((x : ℕ) → mostNodes * l ≤ x → getD (now columns) x 0 ≡ 0) ⌝ }
+    requires { ⌜ (0 < length (now columns) → mostNodes ≤ length (now disturbers)) ⌝ }
+    ensures { λ _. ⌜ KeptMore (now (rows .entry)) (now (disturbers .entry)) (planAt (now (records .entry)) (now (steps .entry)) l) l (now (columns .entry)) (now (columns .exit)) ⌝ }
 {
     let at = Node::MOST * l;
     if columns.len() < at + Node::MOST {
         return;
     }
+    let plan = plan_at(records, steps, l);
     gather(rows, disturbers, plan, &mut columns[at..]);
 }

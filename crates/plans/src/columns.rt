@@ -58,8 +58,8 @@ pub fn disturbers(rows: &[u8]) -> [u64; Node::MOST]
 }
 
 // One step of a plan noted in its columns, the b-th from the end.
-fn note(rows: &[u8], disturbers: &[u64; Node::MOST], u: Transmission, b: usize, columns: &mut [u64])
-    requires { ⌜ Within (now rows) u × (b < mostSteps) × (mostNodes ≤ length (now columns)) ⌝ }
+fn note(rows: &[u8], disturbers: &[u64], u: Transmission, b: usize, columns: &mut [u64])
+    requires { ⌜ Within (now rows) u × (b < mostSteps) × (mostNodes ≤ length (now columns)) × (mostNodes ≤ length (now disturbers)) ⌝ }
     ensures { λ _. ⌜ Noted (now (rows .entry)) (now (disturbers .entry)) u b (now (columns .entry)) (now (columns .exit)) ⌝ }
 {
     let ends = only(u.sender) | only(u.receiver);
@@ -70,8 +70,8 @@ fn note(rows: &[u8], disturbers: &[u64; Node::MOST], u: Transmission, b: usize, 
 }
 
 // The columns of a plan, gathered into blank ones.
-pub fn gather(rows: &[u8], disturbers: &[u64; Node::MOST], plan: &[u8], columns: &mut [u64])
-    requires { ⌜ (length (now plan) ≤ stepBytes * mostSteps) × AllWithin (now rows) (now plan) × (mostNodes ≤ length (now columns)) × ((x : ℕ) → x < mostNodes → getD (now columns) x 0 ≡ 0) ⌝ }
+pub fn gather(rows: &[u8], disturbers: &[u64], plan: &[u8], columns: &mut [u64])
+    requires { ⌜ (length (now plan) ≤ stepBytes * mostSteps) × AllWithin (now rows) (now plan) × (mostNodes ≤ length (now columns)) × ((x : ℕ) → x < mostNodes → getD (now columns) x 0 ≡ 0) × (mostNodes ≤ length (now disturbers)) ⌝ }
     ensures { λ _. ⌜ Gathered (now (rows .entry)) (now (disturbers .entry)) (now (plan .entry)) (now (columns .entry)) (now (columns .exit)) ⌝ }
 {
     let len = step_count(plan);

@@ -20,7 +20,7 @@ use Rattle.admission.specs.Bounds.{refusedBy}
 use Rattle.admission.specs.Formed.{planAt}
 use Rattle.admission.specs.Kept.{Kept}
 use Rattle.admission.proofs.Alike.{alike-counts, boundBy-alike}
-use Rattle.admission.proofs.Formed.{formed-less, length-plan, plan-within}
+use Rattle.admission.proofs.Formed.{formed-less}
 use Rattle.admission.proofs.Outcome.{boundless-over, boundless-in, bounded-refused, bounded-done}
 use Rattle.admission.proofs.Padded.{filled, filled-none, filled-more, filled-at}
 use Rattle.admission.proofs.bounds.bounds_with.Statement.{statement}
@@ -41,7 +41,7 @@ abbrev μ-loop : tie.MeasureT-loop
 
 loop-holds : tie.Need-loop-holds Inv-loop μ-loop
 loop-holds c =
-    let s = c .before .before .before .before in
+    let s = c .before .before .before .before .before in
     let a = s .args in
     let f : Facts = factsIn 0 (a .flows) (now (a .rows)) (now (a .records)) (now (a .steps)) in (
       omega arith,
@@ -54,11 +54,11 @@ loop-holds c =
     )
 
 record-at-requires : tie.Need-record-at-requires Inv-loop μ-loop
-record-at-requires c κs = omega (arith, c .before .before .before .before .before .before .pre .0 .0 .recorded)
+record-at-requires c κs = omega (arith, c .before .before .before .before .before .before .before .pre .0 .0 .recorded)
 
 bound-at-requires : tie.Need-bound-at-requires Inv-loop μ-loop
 bound-at-requires c κs =
-    let s = c .before .before .before .before .before .before .before .before .before .before in
+    let s = c .before .before .before .before .before .before .before .before .before .before .before in
     let a = s .args in
     let loop = c .before .before .before .before .before .loop in
     let formed = s .pre .0 .0 in
@@ -80,25 +80,25 @@ bound-at-requires c κs =
 -- what the record says, and that the flow's deadline and period are in range
 fields :
     (c : tie.After-record-at Inv-loop μ-loop)
-    → (c .record-at .result .period ≡ field (now (c .before .before .before .before .before .before .before .args .records)) (c .before .before .loop .l) 2)
-    × (c .record-at .result .deadline ≡ field (now (c .before .before .before .before .before .before .before .args .records)) (c .before .before .loop .l) 3)
+    → (c .record-at .result .period ≡ field (now (c .before .before .before .before .before .before .before .before .args .records)) (c .before .before .loop .l) 2)
+    × (c .record-at .result .deadline ≡ field (now (c .before .before .before .before .before .before .before .before .args .records)) (c .before .before .loop .l) 3)
     × (c .record-at .result .period ≤ mostPeriod)
     × (c .record-at .result .deadline ≤ mostPeriod)
 unfolding flowIn
 fields c =
     let period = ap (λ (w : Flow). w .period) (c .record-at .ensures) in
     let deadline = ap (λ (w : Flow). w .deadline) (c .record-at .ensures) in
-    let range = c .before .before .before .before .before .before .before .pre .0 .0 .fields (c .before .before .loop .l) (omega arith) in
+    let range = c .before .before .before .before .before .before .before .before .pre .0 .0 .fields (c .before .before .loop .l) (omega arith) in
     (period, deadline, omega (arith, period, range .period .1), omega (arith, deadline, range .deadline, range .period .1))
 
 -- the bound that was found is the flow's
 bounded :
     (c : tie.After-bound-at Inv-loop μ-loop)
     → c .bound-at .result
-    ≡ bound (factsIn 0 (c .before .before .before .before .before .before .before .before .before .before .before .args .flows) (now (c .before .before .before .before .before .before .before .before .before .before .before .args .rows)) (now (c .before .before .before .before .before .before .before .before .before .before .before .args .records)) (now (c .before .before .before .before .before .before .before .before .before .before .before .args .steps))) (c .before .before .before .before .before .before .loop .l)
+    ≡ bound (factsIn 0 (c .before .before .before .before .before .before .before .before .before .before .before .before .args .flows) (now (c .before .before .before .before .before .before .before .before .before .before .before .before .args .rows)) (now (c .before .before .before .before .before .before .before .before .before .before .before .before .args .records)) (now (c .before .before .before .before .before .before .before .before .before .before .before .before .args .steps))) (c .before .before .before .before .before .before .loop .l)
 unfolding bound factsOf
 bounded c =
-    let a = c .before .before .before .before .before .before .before .before .before .before .before .args in
+    let a = c .before .before .before .before .before .before .before .before .before .before .before .before .args in
     let loop = c .before .before .before .before .before .before .loop in
     let deadline : ℕ → ℕ = λ h. field (now (a .records)) h 3 in
     c .bound-at .ensures
@@ -123,7 +123,7 @@ same-length c = c .before .before .before .before .before .before .before .befor
 returns : tie.Need-returns Inv-loop μ-loop
 unfolding factsOf
 returns c =
-    let a = c .before .before .before .before .before .before .before .before .before .before .before .before .before .before .before .args in
+    let a = c .before .before .before .before .before .before .before .before .before .before .before .before .before .before .before .before .args in
     let loop = c .before .before .before .before .before .before .before .before .before .before .loop in
     let f : Facts = factsIn 0 (a .flows) (now (a .rows)) (now (a .records)) (now (a .steps)) in
     let over : field (now (a .records)) (loop .l) 3 < bound f (loop .l) =
@@ -136,45 +136,37 @@ cast-bounds : tie.Need-cast-bounds Inv-loop μ-loop
 cast-bounds c = omega (arith, fields (c .before .before .before .before .before .before))
 
 mul-bounds : tie.Need-mul-bounds Inv-loop μ-loop
-mul-bounds c = omega (arith, c .before .before .before .before .before .before .before .before .before .before .before .before .before .pre .0 .0 .most)
+mul-bounds c = omega (arith, c .before .before .before .before .before .before .before .before .before .before .before .before .before .before .pre .0 .0 .most)
 
 array-write-bounds : tie.Need-array-write-bounds Inv-loop μ-loop
-array-write-bounds c = omega (arith, c .before .before .before .before .before .before .before .before .before .before .before .before .before .pre .0 .0 .most)
+array-write-bounds c = omega (arith, c .before .before .before .before .before .before .before .before .before .before .before .before .before .before .pre .0 .0 .most)
 
 cast-periods : tie.Need-cast-periods Inv-loop μ-loop
 cast-periods c = omega (arith, fields (c .before .before .before .before .before .before .before))
 
 mul-periods : tie.Need-mul-periods Inv-loop μ-loop
-mul-periods c = omega (arith, c .before .before .before .before .before .before .before .before .before .before .before .before .before .before .pre .0 .0 .most)
+mul-periods c = omega (arith, c .before .before .before .before .before .before .before .before .before .before .before .before .before .before .before .pre .0 .0 .most)
 
 array-write-periods : tie.Need-array-write-periods Inv-loop μ-loop
-array-write-periods c = omega (arith, c .before .before .before .before .before .before .before .before .before .before .before .before .before .before .pre .0 .0 .most)
+array-write-periods c = omega (arith, c .before .before .before .before .before .before .before .before .before .before .before .before .before .before .before .pre .0 .0 .most)
 
 cast-carries : tie.Need-cast-carries Inv-loop μ-loop
 cast-carries c = omega (arith, fields (c .before .before .before .before .before .before .before .before))
 
 mul-carries : tie.Need-mul-carries Inv-loop μ-loop
-mul-carries c = omega (arith, c .before .before .before .before .before .before .before .before .before .before .before .before .before .before .before .pre .0 .0 .most)
+mul-carries c = omega (arith, c .before .before .before .before .before .before .before .before .before .before .before .before .before .before .before .before .pre .0 .0 .most)
 
 array-write-carries : tie.Need-array-write-carries Inv-loop μ-loop
-array-write-carries c = omega (arith, c .before .before .before .before .before .before .before .before .before .before .before .before .before .before .before .pre .0 .0 .most)
-
-plan-at-requires : tie.Need-plan-at-requires Inv-loop μ-loop
-plan-at-requires c κs =
-    let formed = c .before .before .before .before .before .before .before .before .before .before .before .before .before .before .before .pre .0 .0 in
-    (omega (arith, formed .most), omega (arith, formed .recorded))
+array-write-carries c = omega (arith, c .before .before .before .before .before .before .before .before .before .before .before .before .before .before .before .before .pre .0 .0 .most)
 
 keep-requires : tie.Need-keep-requires Inv-loop μ-loop
 keep-requires c κs =
     let s = c .before .before .before .before .before .before .before .before .before .before .before .before .before .before .before .before .before in
     let a = s .args in
-    let l : ℕ = c .before .before .before .before .before .before .before .before .before .before .before .before .loop .l in
-    let formed = s .pre .0 .0 in
-    let more : l < a .flows = c .before .before .before .before .before .before .before .before .before .before .before .loop-test .taken in (
-      lt-of-lt-of-le more (formed .most),
-      rw (c .before .plan-at .ensures) (length-plan (a .flows) (now (a .rows)) (now (a .records)) (now (a .steps)) formed l more),
-      rw (c .before .plan-at .ensures) (plan-within (a .flows) (now (a .rows)) (now (a .records)) (now (a .steps)) formed l more),
-      c .before .before .before .before .before .before .before .before .before .before .before .before .loop .inv .6 .blank,
+    let loop = c .before .before .before .before .before .before .before .before .before .before .before .loop in
+    let more = rw (← add-one (loop .l)) at (c .before .before .before .before .before .before .before .before .before .before .loop-test .taken) in (
+      (formed-less (loop .l + 1) (a .flows) (now (a .rows)) (now (a .records)) (now (a .steps)) more (s .pre .0 .0), loop .inv .6 .blank),
+      λ some. omega (arith, s .pre .1 (omega (arith, some, loop .inv .5)) .0 .size),
     )
 
 add-l : tie.Need-add-l Inv-loop μ-loop
@@ -188,20 +180,20 @@ unfolding factsOf
 loop-again c =
     let s = c .before .before .before .before .before .before .before .before .before .before .before .before .before .before .before .before .before .before .before .before in
     let a = s .args in
-    let loop = c .before .before .before .before .before .before .before .before .before .before .before .before .before .before .before .loop in
+    let loop = c .before .before .before .before .before .before .before .before .before .before .before .before .before .before .loop in
     let f : Facts = factsIn 0 (a .flows) (now (a .rows)) (now (a .records)) (now (a .steps)) in
-    let said = fields (c .before .before .before .before .before .before .before .before .before .before .before .before .before) in
+    let said = fields (c .before .before .before .before .before .before .before .before .before .before .before .before) in
     let within : bound f (loop .l) ≤ field (now (a .records)) (loop .l) 3 =
-    rw (← said .1, ← bounded (c .before .before .before .before .before .before .before .before .before)) (c .before .before .before .before .before .before .before .if1 .left) in
+    rw (← said .1, ← bounded (c .before .before .before .before .before .before .before .before)) (c .before .before .before .before .before .before .if1 .left) in
     let kept = c .before .before .keep .ensures in
-    let room : loop .l < mostFlows = lt-of-lt-of-le (c .before .before .before .before .before .before .before .before .before .before .before .before .before .before .loop-test .taken) (s .pre .0 .0 .most) in (
-      rw (add-one (loop .l)) (c .before .before .before .before .before .before .before .before .before .before .before .before .before .before .loop-test .taken),
-      rw (loop .inv .1, bounded (c .before .before .before .before .before .before .before .before .before)) (filled-more mostFlows (bound f) (loop .l) room),
+    let room : loop .l < mostFlows = lt-of-lt-of-le (c .before .before .before .before .before .before .before .before .before .before .before .before .before .loop-test .taken) (s .pre .0 .0 .most) in (
+      rw (add-one (loop .l)) (c .before .before .before .before .before .before .before .before .before .before .before .before .before .loop-test .taken),
+      rw (loop .inv .1, bounded (c .before .before .before .before .before .before .before .before)) (filled-more mostFlows (bound f) (loop .l) room),
       rw (loop .inv .2, said .0) (filled-more mostFlows (λ (h : ℕ). field (now (a .records)) h 2) (loop .l) room),
       rw (loop .inv .3, said .1) (filled-more mostFlows (λ (h : ℕ). field (now (a .records)) h 3) (loop .l) room),
       below-more _ _ (loop .inv .4) (boundless-in f (loop .l) within),
       kept .size ∙ loop .inv .5,
-      rw (add-one (loop .l)) (kept .more (planAt (now (a .records)) (now (a .steps))) (sym (c .before .before .before .before .plan-at .ensures)) (loop .inv .6)),
+      rw (add-one (loop .l)) (kept .more (planAt (now (a .records)) (now (a .steps))) refl (loop .inv .6)),
     )
 
 done-requires : tie.Need-done-requires Inv-loop μ-loop
@@ -213,7 +205,7 @@ same-length-2 c = c .before .before .loop .inv .5
 returns-2 : tie.Need-returns-2 Inv-loop μ-loop
 unfolding factsOf boundsOf
 returns-2 c =
-    let a = c .before .before .before .before .before .before .before .args in
+    let a = c .before .before .before .before .before .before .before .before .args in
     let loop = c .before .before .loop in
     let f : Facts = factsIn 0 (a .flows) (now (a .rows)) (now (a .records)) (now (a .steps)) in
     let e : loop .l ≡ a .flows = omega arith in
@@ -244,7 +236,6 @@ bounds-with-spec =
     cast-carries
     mul-carries
     array-write-carries
-    plan-at-requires
     keep-requires
     add-l
     loop-less

@@ -35,7 +35,7 @@ step-count-requires c κs = tt
 -- src/columns.rt:70:5
 loop-holds : tie.Need-loop-holds Inv-loop μ-loop
 loop-holds c =
-    let start = c .before .before .before .before in
+    let start = c .before .before .before .before .before in
     (omega arith, c .step-count .ensures, refl, columns-none _ _ _ _ (start .pre .3), λ x h. refl)
 
 -- src/columns.rt:71:46
@@ -53,12 +53,13 @@ step-at-requires c κs = omega (arith, c .before .loop .inv .1)
 -- src/columns.rt:71:9
 note-requires : tie.Need-note-requires Inv-loop μ-loop
 note-requires c κs =
-    let start = c .before .before .before .before .before .before .before .before in
+    let start = c .before .before .before .before .before .before .before .before .before in
     let loop = c .before .before .before .loop in
     let len : ℕ = c .before .before .before .before .step-count .result in (
       rw (c .before .step-at .ensures) (start .pre .1 (len - 1 - loop .b) (omega (arith, loop .inv .1))),
       omega (arith, loop .inv .1, start .pre .0),
       omega (arith, loop .inv .2, start .pre .2),
+      start .pre .4,
     )
 
 -- src/columns.rt:72:9
@@ -72,7 +73,7 @@ loop-less c = omega arith
 -- src/columns.rt:70:5
 loop-again : tie.Need-loop-again Inv-loop μ-loop
 loop-again c =
-    let start = c .before .before .before .before .before .before .before .before .before .before .before in
+    let start = c .before .before .before .before .before .before .before .before .before .before .before .before in
     let loop = c .before .before .before .before .before .before .loop in
     let plan = start .args .plan .now in
     let len : ℕ = c .before .before .before .before .before .before .before .step-count .result in
@@ -95,7 +96,7 @@ same-length c = c .before .loop .inv .2
 returns : tie.Need-returns Inv-loop μ-loop
 returns c =
     let loop = c .before .loop in
-    let e : loop .b ≡ stepsIn (c .before .before .before .before .before .before .args .plan .now) = omega (arith, loop .inv .1) in
+    let e : loop .b ≡ stepsIn (c .before .before .before .before .before .before .before .args .plan .now) = omega (arith, loop .inv .1) in
     record { size = loop .inv .2; columns = rw (← e) (loop .inv .3); others = loop .inv .4 }
 
 pub gather-spec : {M : Type 1} → statement M

@@ -42,8 +42,8 @@ mul-sending : tie.Need-mul-sending
 mul-sending c = search needs
 
 -- src/columns.rt:58:19
-element-copy-out-sending : tie.Need-element-copy-out-sending
-element-copy-out-sending c = search needs
+shared-slice-read-sending : tie.Need-shared-slice-read-sending
+shared-slice-read-sending c = search needs
 
 -- src/columns.rt:59:32
 shl-spread : tie.Need-shl-spread
@@ -75,18 +75,18 @@ abbrev receivers : tie.After-slice-known3 → ℕ
 receivers c = bitOr (c .before .before .before .before .before .before .before .before .before .before .row-mask .result) (bitOr (c .before .before .before .before .before .before .before .before .before .before .before .before .only .result) (c .before .before .before .before .before .before .before .before .before .before .before .only2 .result))
 
 abbrev senders : tie.After-slice-known3 → ℕ
-senders c = bitOr (getD (c .before .before .before .before .before .before .before .before .before .before .before .before .before .before .before .args .disturbers .now) (c .before .before .before .before .before .before .before .before .before .before .before .before .before .before .before .args .u .receiver .0) 0) (bitOr (c .before .before .before .before .before .before .before .before .before .before .before .before .only .result) (c .before .before .before .before .before .before .before .before .before .before .before .only2 .result))
+senders c = bitOr (getD (c .before .before .before .before .before .before .before .before .before .before .before .before .before .before .before .before .args .disturbers .now) (c .before .before .before .before .before .before .before .before .before .before .before .before .before .before .before .before .args .u .receiver .0) 0) (bitOr (c .before .before .before .before .before .before .before .before .before .before .before .before .only .result) (c .before .before .before .before .before .before .before .before .before .before .before .only2 .result))
 
 returns : tie.Need-returns
 unfolding receiving sending
 returns c =
-    let start = c .before .before .before .before .before .before .before .before .before .before .before .before .before .before .before in
+    let start = c .before .before .before .before .before .before .before .before .before .before .before .before .before .before .before .before in
     let rows : List ℕ = start .args .rows .now in
     let u : Transmission = start .args .u in
     let own = c .before .before .before .before .before .before .before .before .before .before .before .before .only .ensures in
     let other = c .before .before .before .before .before .before .before .before .before .before .before .only2 .ensures in
     noted rows (start .args .disturbers .now) u (start .args .b) (receivers c) (senders c) (start .args .columns .now) (c .before .before .before .before .before .before .spread .last .0) (c .before .before .spread2 .last .0)
-    (λ x h. rw (own, other, c .before .before .before .before .before .before .before .before .before .before .row-mask .ensures) (ends rows (start .args .disturbers .now) u (start .args .b) (rowMask rows (u .sender .0)) x) ∙ ap (λ (t : Bool). eqb (u .sender .0) x || eqb (u .receiver .0) x || t) (bit-row rows (λ i. omega (arith, c .before .before .before .before .before .before .before .before .before .before .before .before .before .before .shared-slice-known .given i)) (u .sender .0) x h))
+    (λ x h. rw (own, other, c .before .before .before .before .before .before .before .before .before .before .row-mask .ensures) (ends rows (start .args .disturbers .now) u (start .args .b) (rowMask rows (u .sender .0)) x) ∙ ap (λ (t : Bool). eqb (u .sender .0) x || eqb (u .receiver .0) x || t) (bit-row rows (λ i. omega (arith, c .before .before .before .before .before .before .before .before .before .before .before .before .before .before .before .shared-slice-known .given i)) (u .sender .0) x h))
     (λ x h. rw (own, other) (ends rows (start .args .disturbers .now) u (start .args .b) (getD (start .args .disturbers .now) (u .receiver .0) 0) x))
     (rw (one-bit (start .args .b) (omega (arith, start .pre .1))) at (c .before .before .before .before .before .before .spread .ensures))
     (rw (one-bit (32 + start .args .b) (omega (arith, start .pre .1))) at (c .before .before .spread2 .ensures))
@@ -100,7 +100,7 @@ note-spec =
     row-mask-requires
     cast-sending
     mul-sending
-    element-copy-out-sending
+    shared-slice-read-sending
     shl-spread
     spread-requires
     add-spread

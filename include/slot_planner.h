@@ -6,7 +6,7 @@
  * No call keeps a pointer, allocates memory or has state of its own: all it
  * knows is in the slices that it is lent. Slices must not overlap, and a
  * pointer must not be null, not even with a length of 0. Check and start
- * take about 22 KB of stack, advance about 1 KB.
+ * take about 4 KB of stack, advance about 1 KB.
  */
 #ifndef SLOT_PLANNER_H
 #define SLOT_PLANNER_H

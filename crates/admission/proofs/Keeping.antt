@@ -1,127 +1,80 @@
--- The columns of plans, kept one after another: those of one plan more, and the figures that they give. Leans on the plans' Gathering.
--- Assumes nothing.
+-- The figures of flows, kept in a square: one more, and those of one flow more. Leans on the plans' Gathering. Assumes nothing.
 use Prim.Native.Nat.{ℕ, zero, suc, _+_, _-_, _*_, _≤_, _<_}
-use mathlib.Core.Path.{_≡_, refl, sym, _∙_, ap, ap₂}
+use mathlib.Core.Path.{_≡_, refl, sym, _∙_, ap}
 use mathlib.Core.Logic.{⊎-elim}
-use mathlib.Core.List.{List, _++_, append-nil}
+use mathlib.Core.List.{List}
 use native.Mathlib.Omega.{arith}
-use lib.ListN.{length, getD, take, drop, length-drop, length-append, List·getD-append, drop-of-length-le}
-use lib.Seq.{take-all, getD-drop, getD-take, length-take-le, drop-at}
-use borrow.Rule.Slice.PartMut.{putMid, post-is}
-use Rattle.trade.specs.Limits.{mostNodes}
+use lib.ListN.{length, getD, set, length-set}
+use lib.Seq.{getD-set-same, getD-set-other}
+use Rattle.trade.specs.Limits.{mostFlows}
 use Rattle.trade.specs.Facts.{factsIn}
 use Rattle.trade.specs.Interference.{interference}
 use Rattle.trade.proofs.First.{lt-or-ge}
 use Rattle.plans.specs.Line.{stepsIn}
-use Rattle.plans.specs.Columns.{Columns, Gathered}
+use Rattle.plans.specs.Columns.{Disturbers, Columns}
 use Rattle.plans.proofs.Gathering.{figure-by-columns}
 use Rattle.admission.specs.Formed.{Formed, planAt}
-use Rattle.admission.specs.Kept.{columnsOf, figureBy, Kept, KeptMore, Ready}
+use Rattle.admission.specs.Kept.{keptAt, figureBy, FilledIn, Kept, KeptMore}
 use Rattle.admission.proofs.Formed.{length-plan, plan-within, figure-plans}
 
--- what is left of a list from a place on, and something else put there
-pub left : (columns : List ℕ) (at : ℕ) → take (length columns - at) (drop at columns) ≡ drop at columns
-left columns at = take-all (length columns - at) (drop at columns) (rw length-drop (omega arith))
+-- the figures of flow h filled in, on the flows below it and above l
+pub record Filling (l h : ℕ) (figure : ℕ → ℕ) (before square : List ℕ) : Type 0 where
+  pub size : length square ≡ length before
+  pub own : (k : ℕ) → h < k → k < l → keptAt square k h ≡ figure k
+  pub others : (k g : ℕ) → g < mostFlows → (g ≡ h → ⊥) → keptAt square k g ≡ keptAt before k g
 
-put-left : (at : ℕ) (columns part : List ℕ) → at ≤ length columns → putMid at (length columns - at) columns part ≡ take at columns ++ part
-put-left at columns part h =
-    rw (post-is at (length columns) columns h, drop-of-length-le columns {i = length columns} (omega arith), append-nil part) refl
+module _ (h : ℕ) (figure : ℕ → ℕ) (before : List ℕ) (few : h < mostFlows) where
+  pub filling-none : Filling (suc h) h figure before before
+  filling-none = record { size = refl; own = λ k a b. absurd (omega arith); others = λ k g a n. refl }
 
--- columns say what their places say
-columns-same :
-    (rows disturbers plan columns other : List ℕ) (k : ℕ)
-    → ((x : ℕ) → x < mostNodes → getD columns x 0 ≡ getD other x 0)
-    → Columns rows disturbers plan k columns
-    → Columns rows disturbers plan k other
-columns-same rows disturbers plan columns other k same c =
-    record {
-      received = λ x b h m. rw (← same x h) (c .received x b h m);
-      sent = λ x b h. rw (← same x h) (c .sent x b h);
-    }
-
-module _ (rows disturbers plan : List ℕ) (l : ℕ) (before : List ℕ) where
-  -- one plan more without room for it
-  pub kept-none : length before < mostNodes * l + mostNodes → KeptMore rows disturbers plan l before before
-  kept-none full =
+  -- one more
+  pub filling-more :
+      (l : ℕ) (square : List ℕ)
+      → mostFlows * l + h < length square
+      → Filling l h figure before square
+      → Filling (suc l) h figure before (set square (mostFlows * l + h) (figure l))
+  filling-more l square room f =
       record {
-        size = refl;
-        more =
-            λ plans e k.
-            record {
-              kept = λ h u room. k .kept h (omega arith) room;
-              blank = λ x u. k .blank x (omega arith);
-            };
+        size = length-set square (mostFlows * l + h) (figure l) ∙ f .size;
+        own = λ k a b. ⊎-elim (λ (c : k < l). older k a c) (λ (c : l ≤ k). newest k (omega arith)) (lt-or-ge k l);
+        others = λ k g a n. getD-set-other square (mostFlows * l + h) (mostFlows * k + g) (figure l) 0 (λ e. n (same-place k l g h a few e)) ∙ f .others k g a n;
       }
+    where
+      same-place : (k l g h : ℕ) → g < mostFlows → h < mostFlows → mostFlows * k + g ≡ mostFlows * l + h → g ≡ h
+      same-place k l g h p q e = omega arith
 
-  -- and with room
-  module _ (part : List ℕ) (fits : mostNodes * l + mostNodes ≤ length before)
-      (g : Gathered rows disturbers plan (take (length before - mostNodes * l) (drop (mostNodes * l) before)) part) where
-    abbrev at : ℕ
-    at = mostNodes * l
+      older : (k : ℕ) → h < k → k < l → keptAt (set square (mostFlows * l + h) (figure l)) k h ≡ figure k
+      older k a c = getD-set-other square (mostFlows * l + h) (mostFlows * k + h) (figure l) 0 (λ e. omega arith) ∙ f .own k a c
 
-    front : length (take at before) ≡ at
-    front = length-take-le at before (omega arith)
+      newest : (k : ℕ) → k ≡ l → keptAt (set square (mostFlows * l + h) (figure l)) k h ≡ figure k
+      newest k e = rw e (getD-set-same square (mostFlows * l + h) (figure l) 0 room)
 
-    early : (x : ℕ) → x < at → getD (take at before ++ part) x 0 ≡ getD before x 0
-    early x h = List·getD-append (take at before) part 0 x (omega (arith, front)) ∙ getD-take at before x 0 h
+-- the figures that the columns of a plan give are those of its flow
+module _ (flows : ℕ) (rows records steps disturbers columns : List ℕ) (h : ℕ)
+    (f : Formed flows rows records steps) (d : Disturbers rows disturbers) (b : h < flows)
+    (c : Columns rows disturbers (planAt records steps h) (stepsIn (planAt records steps h)) columns) where
+  figure-kept : (l : ℕ) → l < flows → figureBy columns (planAt records steps l) ≡ interference (factsIn 0 0 rows records steps) l h
+  figure-kept l a =
+      figure-by-columns rows disturbers (planAt records steps l) (planAt records steps h) columns d
+      (length-plan flows rows records steps f h b) c (plan-within flows rows records steps f l a) (plan-within flows rows records steps f h b)
+      ∙ sym (figure-plans flows rows records steps f l h a b)
 
-    own : drop at (take at before ++ part) ≡ part
-    own = drop-at (take at before) part at front
+  pub kept-more :
+      (before after : List ℕ)
+      → FilledIn flows h (λ l. figureBy columns (planAt records steps l)) before after
+      → KeptMore flows rows records steps h before after
+  kept-more before after g =
+      record {
+        size = g .size;
+        more =
+            λ some k l i p q u.
+            ⊎-elim (λ (v : i < h). g .others l i (omega (arith, f .most)) (λ e. omega arith) ∙ k l i p q v)
+            (λ (v : h ≤ i). newest l i p q (omega arith)) (lt-or-ge i h);
+      }
+    where
+      newest : (l i : ℕ) → l < flows → i < l → i ≡ h → keptAt after l i ≡ interference (factsIn 0 0 rows records steps) l i
+      newest l i p q e = rw e (g .own l (omega arith) p ∙ figure-kept l p)
 
-    size : length (take at before ++ part) ≡ length before
-    size = length-append (take at before) part ∙ omega (arith, front, g .size ∙ ap (λ (xs : List ℕ). length xs) (left before at) ∙ length-drop at before)
-
-    behind : (x : ℕ) → at + mostNodes ≤ x → getD (take at before ++ part) x 0 ≡ getD before x 0
-    behind x h =
-        let e : at + (x - at) ≡ x = omega arith in
-        ap (λ (n : ℕ). getD (take at before ++ part) n 0) (sym e)
-        ∙ sym (getD-drop at (take at before ++ part) (x - at) 0)
-        ∙ ap (λ (xs : List ℕ). getD xs (x - at) 0) own
-        ∙ g .others (x - at) (omega arith)
-        ∙ ap (λ (xs : List ℕ). getD xs (x - at) 0) (left before at)
-        ∙ getD-drop at before (x - at) 0
-        ∙ ap (λ (n : ℕ). getD before n 0) e
-
-    pub kept-more : KeptMore rows disturbers plan l before (putMid (mostNodes * l) (length before - mostNodes * l) before part)
-    kept-more =
-        rw (put-left at before part (omega arith))
-        (record {
-          size = size;
-          more =
-              λ plans e k.
-              record {
-                kept = λ h u room. ⊎-elim (older plans k h) (λ (v : l ≤ h). newest plans e h (omega arith)) (lt-or-ge h l);
-                blank = λ x u. behind x (omega arith) ∙ k .blank x (omega arith);
-              };
-        })
-      where
-        older :
-            (plans : ℕ → List ℕ)
-            → Kept rows disturbers plans l before
-            → (h : ℕ)
-            → h < l
-            → Columns rows disturbers (plans h) (stepsIn (plans h)) (columnsOf (take at before ++ part) h)
-        older plans k h v =
-            columns-same rows disturbers (plans h) (columnsOf before h) (columnsOf (take at before ++ part) h) (stepsIn (plans h))
-            (λ x b.
-            getD-drop (mostNodes * h) before x 0
-            ∙ sym (early (mostNodes * h + x) (omega arith))
-            ∙ sym (getD-drop (mostNodes * h) (take at before ++ part) x 0))
-            (k .kept h v (omega arith))
-
-        newest : (plans : ℕ → List ℕ) → plans l ≡ plan → (h : ℕ) → h ≡ l → Columns rows disturbers (plans h) (stepsIn (plans h)) (columnsOf (take at before ++ part) h)
-        newest plans e h q = rw (q, e, own) (g .columns)
-
--- the figures that kept columns give are those of the flows
-pub figure-kept :
-    (rows records steps columns : List ℕ) (l : ℕ)
-    → Formed (l + 1) rows records steps
-    → Ready rows records steps l columns
-    → (h : ℕ)
-    → h < l
-    → figureBy columns (planAt records steps l) h ≡ interference (factsIn 0 0 rows records steps) l h
-figure-kept rows records steps columns l f r h b =
-    figure-by-columns rows (r .disturbers) (planAt records steps l) (planAt records steps h) (columnsOf columns h) (r .known)
-    (length-plan (l + 1) rows records steps f h (omega arith)) (r .kept .kept h b (omega (arith, r .room)))
-    (plan-within (l + 1) rows records steps f l (omega arith)) (plan-within (l + 1) rows records steps f h (omega arith))
-    ∙ sym (figure-plans (l + 1) rows records steps f l h (omega arith) (omega arith))
+-- the last flow has none below it
+pub kept-last : (flows : ℕ) (rows records steps : List ℕ) (h : ℕ) (square : List ℕ) → h + 1 ≡ flows → KeptMore flows rows records steps h square square
+kept-last flows rows records steps h square e = record { size = refl; more = λ some k l i p q u. k l i p q (omega arith) }

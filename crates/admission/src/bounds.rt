@@ -2,7 +2,7 @@
 ghost use mathlib.Core.Path.{_≡_};
 ghost use Prim.Native.Nat.{ℕ, _+_, _*_, _≤_, _<_};
 ghost use lib.ListN.{length, getD};
-ghost use Rattle.trade.specs.Limits.{mostNodes, mostPeriod};
+ghost use Rattle.trade.specs.Limits.{mostFlows, mostPeriod};
 ghost use Rattle.trade.specs.Layout.{field};
 ghost use Rattle.trade.specs.Facts.{factsIn};
 ghost use Rattle.trade.specs.Bound.{boundBy};
@@ -17,7 +17,6 @@ use book::records::record_at;
 use plans::columns::disturbers;
 use trade::Answer;
 use trade::Flow;
-use trade::Node;
 
 // An answer, and the bounds of the flows with zeros elsewhere; refused, all zeros.
 pub struct Checked {
@@ -40,19 +39,19 @@ fn bound_at(
     rows: &[u8],
     records: &[u8],
     steps: &[u8],
-    columns: &[u64],
+    square: &[u8],
     l: usize,
     periods: &[u32; Flow::MOST],
     carries: &[u32; Flow::MOST],
 ) -> u32
     requires { ⌜ Formed (l + 1) (now rows) (now records) (now steps) ⌝ }
-    requires { ⌜ (0 < length (now columns) → Ready (now rows) (now records) (now steps) l (now columns)) ⌝ }
+    requires { ⌜ (0 < length (now square) → Ready (now rows) (now records) (now steps) l (now square)) ⌝ }
     requires { ⌜ ((h : ℕ) → h < l → getD (now periods) h 0 ≡ field (now records) h 2) ⌝ }
     requires { ⌜ ((h : ℕ) → h < l → getD (now carries) h 0 ≤ mostPeriod) ⌝ }
     ensures { λ r. ⌜ r ≡ boundBy (factsIn 0 0 (now (rows .entry)) (now (records .entry)) (now (steps .entry))) (λ h. getD (now (carries .entry)) h 0) l ⌝ }
 {
     let flow = record_at(records, l);
-    let figures = figures_at(rows, records, steps, columns, l);
+    let figures = figures_at(rows, records, steps, square, l);
     smallest(
         flow.len as u32,
         flow.deadline as u32,
@@ -63,18 +62,18 @@ fn bound_at(
     )
 }
 
-// The bounds of all flows, or code 9 at the first flow that has none. The carry-in of a flow is its deadline. The columns of each plan are
-// kept, blank ones being lent for them, or none where the figures are to be worked out without.
+// The bounds of all flows, or code 9 at the first flow that has none. The carry-in of a flow is its deadline. A square is lent for the
+// figures, with who disturbs whom; or none, and each figure is worked out where it is needed.
 fn bounds_with(
     flows: usize,
     rows: &[u8],
     records: &[u8],
     steps: &[u8],
     disturbers: &[u64],
-    columns: &mut [u64],
+    square: &mut [u8],
 ) -> Checked
-    requires { ⌜ Formed flows (now rows) (now records) (now steps) × ((x : ℕ) → getD (now columns) x 0 ≡ 0) ⌝ }
-    requires { ⌜ (0 < length (now columns) → Disturbers (now rows) (now disturbers) × (mostNodes * flows ≤ length (now columns) + mostNodes)) ⌝ }
+    requires { ⌜ Formed flows (now rows) (now records) (now steps) ⌝ }
+    requires { ⌜ (0 < length (now square) → Disturbers (now rows) (now disturbers) × (mostFlows * flows ≤ length (now square))) ⌝ }
     ensures { λ r. ⌜ r ≡ boundedBy (factsIn 0 flows (now (rows .entry)) (now (records .entry)) (now (steps .entry))) ⌝ }
 {
     let mut bounds = [0u16; Flow::MOST];
@@ -83,14 +82,14 @@ fn bounds_with(
     let mut l = 0;
     while l < flows {
         let flow = record_at(records, l);
-        let bound = bound_at(rows, records, steps, columns, l, &periods, &carries);
+        let bound = bound_at(rows, records, steps, square, l, &periods, &carries);
         if (flow.deadline as u32) < bound {
             return refused(Answer::refused(9, l as u64));
         }
         bounds[l] = bound as u16;
         periods[l] = flow.period as u32;
         carries[l] = flow.deadline as u32;
-        keep(rows, disturbers, records, steps, l, columns);
+        keep(rows, disturbers, records, steps, flows, l, square);
         l += 1;
     }
     Checked {
@@ -99,27 +98,20 @@ fn bounds_with(
     }
 }
 
-// Up to so many step bytes the columns cost more than they save.
+// Up to so many step bytes a square costs more than it saves.
 const FEW: usize = 48;
 
-// Up to so many plans are kept in the smaller room.
-const SOME: usize = 8;
-
-// The bounds of all flows, or code 9. The last plan disturbs no other, so its columns are not kept.
+// The bounds of all flows, or code 9.
 pub fn bounds_of(flows: usize, rows: &[u8], records: &[u8], steps: &[u8]) -> Checked
     requires { ⌜ Formed flows (now rows) (now records) (now steps) ⌝ }
     ensures { λ r. ⌜ r ≡ boundedBy (factsIn 0 flows (now (rows .entry)) (now (records .entry)) (now (steps .entry))) ⌝ }
 {
     if steps.len() <= FEW {
         let unknown = [0u64; 1];
-        let mut none = [0u64; 1];
+        let mut none = [0u8; 1];
         return bounds_with(flows, rows, records, steps, &unknown[..0], &mut none[..0]);
     }
     let known = disturbers(rows);
-    if flows <= SOME + 1 {
-        let mut columns = [0u64; Node::MOST * SOME];
-        return bounds_with(flows, rows, records, steps, &known, &mut columns);
-    }
-    let mut columns = [0u64; Node::MOST * (Flow::MOST - 1)];
-    bounds_with(flows, rows, records, steps, &known, &mut columns)
+    let mut square = [0u8; Flow::MOST * Flow::MOST];
+    bounds_with(flows, rows, records, steps, &known, &mut square)
 }

@@ -1,14 +1,16 @@
-// The interference of the flows above a flow on it: worked out for each by itself, or by columns that are kept of their plans.
+// The interference of the flows above a flow on it: worked out for each by itself, or read in a square that each flow above, once it
+// has its bound, fills in by the columns of its plan.
 ghost use mathlib.Core.Path.{_≡_};
 ghost use Prim.Native.Nat.{ℕ, _+_, _*_, _≤_, _<_};
-ghost use lib.ListN.{length, getD};
-ghost use Rattle.trade.specs.Limits.{recordBytes, stepBytes, mostFlows, mostNodes};
+ghost use lib.ListN.{length};
+ghost use Rattle.trade.specs.Limits.{recordBytes, mostFlows, mostNodes};
 ghost use Rattle.trade.specs.First.{listTo};
 ghost use Rattle.trade.specs.Bytes.{padded};
-ghost use Rattle.trade.specs.Facts.{factsIn, stepIn};
+ghost use Rattle.trade.specs.Facts.{factsIn};
 ghost use Rattle.trade.specs.Interference.{interference};
+ghost use Rattle.plans.specs.Columns.{Disturbers};
 ghost use Rattle.admission.specs.Formed.{Formed, planAt};
-ghost use Rattle.admission.specs.Kept.{figureBy, KeptMore, Ready};
+ghost use Rattle.admission.specs.Kept.{keptAt, figureBy, Numbered, FilledIn, KeptMore, Ready};
 use book::records::len_at;
 use book::records::steps_before;
 use plans::columns::figure;
@@ -44,56 +46,78 @@ fn figures_of(rows: &[u8], records: &[u8], steps: &[u8], l: usize) -> [u32; Flow
     figures
 }
 
-// The same by the columns that are kept of the plans above l.
-fn figures_by(columns: &[u64], plan: &[u8], l: usize) -> [u32; Flow::MOST]
-    requires { ⌜ (l ≤ mostFlows) × (mostNodes * l ≤ length (now columns)) × ((k : ℕ) → stepBytes * k + 1 < length (now plan) → (stepIn (now plan) k .sender .0 < mostNodes) × (stepIn (now plan) k .receiver .0 < mostNodes)) ⌝ }
-    ensures { λ r. ⌜ r ≡ padded mostFlows (listTo (figureBy (now (columns .entry)) (now (plan .entry))) l) ⌝ }
+// The same out of a square that has the line of flow l.
+fn figures_in(square: &[u8], l: usize) -> [u32; Flow::MOST]
+    requires { ⌜ (l ≤ mostFlows) × (mostFlows * l + l ≤ length (now square)) ⌝ }
+    ensures { λ r. ⌜ r ≡ padded mostFlows (listTo (keptAt (now (square .entry)) l) l) ⌝ }
 {
     let mut figures = [0u32; Flow::MOST];
     let mut h = 0;
     while h < l {
-        let at = Node::MOST * h;
-        figures[h] = figure(&columns[at..], plan) as u32;
+        let at = Flow::MOST * l + h;
+        figures[h] = square[at] as u32;
         h += 1;
     }
     figures
 }
 
-// By the columns, if any are kept.
+// Out of the square, if there is one.
 pub(crate) fn figures_at(
     rows: &[u8],
     records: &[u8],
     steps: &[u8],
-    columns: &[u64],
+    square: &[u8],
     l: usize,
 ) -> [u32; Flow::MOST]
     requires { ⌜ Formed (l + 1) (now rows) (now records) (now steps) ⌝ }
-    requires { ⌜ (0 < length (now columns) → Ready (now rows) (now records) (now steps) l (now columns)) ⌝ }
+    requires { ⌜ (0 < length (now square) → Ready (now rows) (now records) (now steps) l (now square)) ⌝ }
     ensures { λ r. ⌜ r ≡ padded mostFlows (listTo (interference (factsIn 0 0 (now (rows .entry)) (now (records .entry)) (now (steps .entry))) l) l) ⌝ }
 {
-    if columns.len() == 0 {
+    if square.len() == 0 {
         return figures_of(rows, records, steps, l);
     }
-    figures_by(columns, plan_at(records, steps, l), l)
+    figures_in(square, l)
 }
 
-// The columns of plan l, kept behind those of the plans above it if there is room for them.
+// The figures of flow h on the flows below it, by the columns of its plan, filled into the square.
+fn fill(columns: &[u64], records: &[u8], steps: &[u8], flows: usize, h: usize, square: &mut [u8])
+    requires { ⌜ (h < flows) × (flows ≤ mostFlows) × (recordBytes * flows ≤ length (now records)) × (mostFlows * flows ≤ length (now square)) × (mostNodes ≤ length (now columns)) ⌝ }
+    requires { ⌜ ((l : ℕ) → l < flows → Numbered (planAt (now records) (now steps) l)) ⌝ }
+    ensures { λ _. ⌜ FilledIn flows h (λ l. figureBy (now (columns .entry)) (planAt (now (records .entry)) (now (steps .entry)) l)) (now (square .entry)) (now (square .exit)) ⌝ }
+{
+    let mut start = steps_before(records, h + 1);
+    let mut l = h + 1;
+    while l < flows {
+        let len = len_at(records, l);
+        let at = Flow::MOST * l + h;
+        square[at] = figure(columns, plan_part(steps, start, len)) as u8;
+        start += len;
+        l += 1;
+    }
+}
+
+// The figures of flow h, kept if there is a square, and a flow below it.
 pub(crate) fn keep(
     rows: &[u8],
     disturbers: &[u64],
     records: &[u8],
     steps: &[u8],
-    l: usize,
-    columns: &mut [u64],
+    flows: usize,
+    h: usize,
+    square: &mut [u8],
 )
-    requires { ⌜ Formed (l + 1) (now rows) (now records) (now steps) × ((x : ℕ) → mostNodes * l ≤ x → getD (now columns) x 0 ≡ 0) ⌝ }
-    requires { ⌜ (0 < length (now columns) → mostNodes ≤ length (now disturbers)) ⌝ }
-    ensures { λ _. ⌜ KeptMore (now (rows .entry)) (now (disturbers .entry)) (planAt (now (records .entry)) (now (steps .entry)) l) l (now (columns .entry)) (now (columns .exit)) ⌝ }
+    requires { ⌜ Formed flows (now rows) (now records) (now steps) × (h < flows) ⌝ }
+    requires { ⌜ (0 < length (now square) → Disturbers (now rows) (now disturbers) × (mostFlows * flows ≤ length (now square))) ⌝ }
+    ensures { λ _. ⌜ KeptMore flows (now (rows .entry)) (now (records .entry)) (now (steps .entry)) h (now (square .entry)) (now (square .exit)) ⌝ }
 {
-    let at = Node::MOST * l;
-    if columns.len() < at + Node::MOST {
+    if square.len() == 0 {
         return;
     }
-    let plan = plan_at(records, steps, l);
-    gather(rows, disturbers, plan, &mut columns[at..]);
+    if h + 1 == flows {
+        return;
+    }
+    let mut columns = [0u64; Node::MOST];
+    let plan = plan_at(records, steps, h);
+    gather(rows, disturbers, plan, &mut columns);
+    fill(&columns, records, steps, flows, h, square);
 }

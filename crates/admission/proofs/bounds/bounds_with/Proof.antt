@@ -17,7 +17,6 @@ use Rattle.trade.specs.Calls.{boundsOf}
 use Rattle.trade.specs.declared.answer.Answer.{Answer}
 use Rattle.trade.specs.declared.flow.Flow.{Flow}
 use Rattle.admission.specs.Bounds.{refusedBy}
-use Rattle.admission.specs.Formed.{planAt}
 use Rattle.admission.specs.Kept.{Kept}
 use Rattle.admission.proofs.Alike.{alike-counts, boundBy-alike}
 use Rattle.admission.proofs.Formed.{formed-less}
@@ -27,17 +26,17 @@ use Rattle.admission.proofs.bounds.bounds_with.Statement.{statement}
 use Rattle.admission.proofs.bounds.bounds_with.Tie as tie
 
 abbrev Inv-loop : tie.InvT-loop
-Inv-loop flows rows records steps disturbers columns₀ bounds₀ periods₀ carries₀ l₀ columns bounds periods carries l =
+Inv-loop flows rows records steps disturbers square₀ bounds₀ periods₀ carries₀ l₀ square bounds periods carries l =
     (l ≤ flows)
     × (bounds ≡ filled mostFlows (bound (factsIn 0 flows rows records steps)) l)
     × (periods ≡ filled mostFlows (λ h. field records h 2) l)
     × (carries ≡ filled mostFlows (λ h. field records h 3) l)
     × ((k : ℕ) → k < l → boundless (factsIn 0 flows rows records steps) k ≡ false)
-    × (length columns ≡ length columns₀)
-    × Kept rows disturbers (planAt records steps) l columns
+    × (length square ≡ length square₀)
+    × (0 < length square₀ → Kept flows rows records steps l square)
 
 abbrev μ-loop : tie.MeasureT-loop
-μ-loop flows rows records steps disturbers columns₀ bounds₀ periods₀ carries₀ l₀ columns bounds periods carries l = flows - l
+μ-loop flows rows records steps disturbers square₀ bounds₀ periods₀ carries₀ l₀ square bounds periods carries l = flows - l
 
 loop-holds : tie.Need-loop-holds Inv-loop μ-loop
 loop-holds c =
@@ -50,24 +49,27 @@ loop-holds c =
       sym (filled-none mostFlows (λ (h : ℕ). field (now (a .records)) h 3)),
       λ k h. absurd (omega arith),
       refl,
-      record { kept = λ h u room. absurd (omega arith); blank = λ x h. s .pre .0 .1 x },
+      λ some i h p q u. absurd (omega arith),
     )
 
 record-at-requires : tie.Need-record-at-requires Inv-loop μ-loop
-record-at-requires c κs = omega (arith, c .before .before .before .before .before .before .before .pre .0 .0 .recorded)
+record-at-requires c κs = omega (arith, c .before .before .before .before .before .before .before .pre .0 .recorded)
 
 bound-at-requires : tie.Need-bound-at-requires Inv-loop μ-loop
 bound-at-requires c κs =
     let s = c .before .before .before .before .before .before .before .before .before .before .before in
     let a = s .args in
     let loop = c .before .before .before .before .before .loop in
-    let formed = s .pre .0 .0 in
+    let formed = s .pre .0 in
     let records : List ℕ = now (a .records) in (
       formed-less (loop .l + 1) (a .flows) (now (a .rows)) records (now (a .steps)) (omega arith) formed,
       (
         λ some.
-            let known = s .pre .1 (omega (arith, loop .inv .5)) in
-            record { disturbers = now (a .disturbers); known = known .0; kept = loop .inv .6; room = omega (arith, known .1, loop .inv .5) },
+            let there : 0 < length (now (a .square)) = omega (arith, some, loop .inv .5) in
+            record {
+              line = λ h b. loop .inv .6 there (loop .l) h (omega arith) b b;
+              room = omega (arith, s .pre .1 there .1, loop .inv .5);
+            },
         (
           λ h b. rw (loop .inv .2) (filled-at mostFlows (λ (k : ℕ). field records k 2) (loop .l) h b),
           λ h b.
@@ -88,7 +90,7 @@ unfolding flowIn
 fields c =
     let period = ap (λ (w : Flow). w .period) (c .record-at .ensures) in
     let deadline = ap (λ (w : Flow). w .deadline) (c .record-at .ensures) in
-    let range = c .before .before .before .before .before .before .before .before .pre .0 .0 .fields (c .before .before .loop .l) (omega arith) in
+    let range = c .before .before .before .before .before .before .before .before .pre .0 .fields (c .before .before .loop .l) (omega arith) in
     (period, deadline, omega (arith, period, range .period .1), omega (arith, deadline, range .deadline, range .period .1))
 
 -- the bound that was found is the flow's
@@ -136,41 +138,39 @@ cast-bounds : tie.Need-cast-bounds Inv-loop μ-loop
 cast-bounds c = omega (arith, fields (c .before .before .before .before .before .before))
 
 mul-bounds : tie.Need-mul-bounds Inv-loop μ-loop
-mul-bounds c = omega (arith, c .before .before .before .before .before .before .before .before .before .before .before .before .before .before .pre .0 .0 .most)
+mul-bounds c = omega (arith, c .before .before .before .before .before .before .before .before .before .before .before .before .before .before .pre .0 .most)
 
 array-write-bounds : tie.Need-array-write-bounds Inv-loop μ-loop
-array-write-bounds c = omega (arith, c .before .before .before .before .before .before .before .before .before .before .before .before .before .before .pre .0 .0 .most)
+array-write-bounds c = omega (arith, c .before .before .before .before .before .before .before .before .before .before .before .before .before .before .pre .0 .most)
 
 cast-periods : tie.Need-cast-periods Inv-loop μ-loop
 cast-periods c = omega (arith, fields (c .before .before .before .before .before .before .before))
 
 mul-periods : tie.Need-mul-periods Inv-loop μ-loop
-mul-periods c = omega (arith, c .before .before .before .before .before .before .before .before .before .before .before .before .before .before .before .pre .0 .0 .most)
+mul-periods c = omega (arith, c .before .before .before .before .before .before .before .before .before .before .before .before .before .before .before .pre .0 .most)
 
 array-write-periods : tie.Need-array-write-periods Inv-loop μ-loop
-array-write-periods c = omega (arith, c .before .before .before .before .before .before .before .before .before .before .before .before .before .before .before .pre .0 .0 .most)
+array-write-periods c = omega (arith, c .before .before .before .before .before .before .before .before .before .before .before .before .before .before .before .pre .0 .most)
 
 cast-carries : tie.Need-cast-carries Inv-loop μ-loop
 cast-carries c = omega (arith, fields (c .before .before .before .before .before .before .before .before))
 
 mul-carries : tie.Need-mul-carries Inv-loop μ-loop
-mul-carries c = omega (arith, c .before .before .before .before .before .before .before .before .before .before .before .before .before .before .before .before .pre .0 .0 .most)
+mul-carries c = omega (arith, c .before .before .before .before .before .before .before .before .before .before .before .before .before .before .before .before .pre .0 .most)
 
 array-write-carries : tie.Need-array-write-carries Inv-loop μ-loop
-array-write-carries c = omega (arith, c .before .before .before .before .before .before .before .before .before .before .before .before .before .before .before .before .pre .0 .0 .most)
+array-write-carries c = omega (arith, c .before .before .before .before .before .before .before .before .before .before .before .before .before .before .before .before .pre .0 .most)
 
 keep-requires : tie.Need-keep-requires Inv-loop μ-loop
 keep-requires c κs =
     let s = c .before .before .before .before .before .before .before .before .before .before .before .before .before .before .before .before .before in
-    let a = s .args in
-    let loop = c .before .before .before .before .before .before .before .before .before .before .before .loop in
-    let more = rw (← add-one (loop .l)) at (c .before .before .before .before .before .before .before .before .before .before .loop-test .taken) in (
-      (formed-less (loop .l + 1) (a .flows) (now (a .rows)) (now (a .records)) (now (a .steps)) more (s .pre .0 .0), loop .inv .6 .blank),
-      λ some. omega (arith, s .pre .1 (omega (arith, some, loop .inv .5)) .0 .size),
+    let loop = c .before .before .before .before .before .before .before .before .before .before .before .loop in (
+      (s .pre .0, c .before .before .before .before .before .before .before .before .before .before .loop-test .taken),
+      λ some. let known = s .pre .1 (omega (arith, some, loop .inv .5)) in (known .0, omega (arith, known .1, loop .inv .5)),
     )
 
 add-l : tie.Need-add-l Inv-loop μ-loop
-add-l c = omega (arith, c .before .before .before .before .before .before .before .before .before .before .before .before .before .before .before .before .before .before .before .before .pre .0 .0 .most)
+add-l c = omega (arith, c .before .before .before .before .before .before .before .before .before .before .before .before .before .before .before .before .before .before .before .before .pre .0 .most)
 
 loop-less : tie.Need-loop-less Inv-loop μ-loop
 loop-less c = omega arith
@@ -186,14 +186,14 @@ loop-again c =
     let within : bound f (loop .l) ≤ field (now (a .records)) (loop .l) 3 =
     rw (← said .1, ← bounded (c .before .before .before .before .before .before .before .before)) (c .before .before .before .before .before .before .if1 .left) in
     let kept = c .before .before .keep .ensures in
-    let room : loop .l < mostFlows = lt-of-lt-of-le (c .before .before .before .before .before .before .before .before .before .before .before .before .before .loop-test .taken) (s .pre .0 .0 .most) in (
+    let room : loop .l < mostFlows = lt-of-lt-of-le (c .before .before .before .before .before .before .before .before .before .before .before .before .before .loop-test .taken) (s .pre .0 .most) in (
       rw (add-one (loop .l)) (c .before .before .before .before .before .before .before .before .before .before .before .before .before .loop-test .taken),
       rw (loop .inv .1, bounded (c .before .before .before .before .before .before .before .before)) (filled-more mostFlows (bound f) (loop .l) room),
       rw (loop .inv .2, said .0) (filled-more mostFlows (λ (h : ℕ). field (now (a .records)) h 2) (loop .l) room),
       rw (loop .inv .3, said .1) (filled-more mostFlows (λ (h : ℕ). field (now (a .records)) h 3) (loop .l) room),
       below-more _ _ (loop .inv .4) (boundless-in f (loop .l) within),
       kept .size ∙ loop .inv .5,
-      rw (add-one (loop .l)) (kept .more (planAt (now (a .records)) (now (a .steps))) refl (loop .inv .6)),
+      λ some. rw (add-one (loop .l)) (kept .more (omega (arith, some, loop .inv .5)) (loop .inv .6 some)),
     )
 
 done-requires : tie.Need-done-requires Inv-loop μ-loop

@@ -1,86 +1,98 @@
--- `admission::figures::keep` gathers the columns behind those that are kept, if they fit. Assumes nothing.
-use Prim.Native.Nat.{_+_, _*_}
-use denote.Ref.{now}
+-- `admission::figures::keep` gathers the columns of the flow's plan and fills its figures in, if there is a square. Assumes nothing.
+use Prim.Native.Nat.{ℕ, _+_}
 use mathlib.Core.Path.{_∙_}
+use denote.Ref.{now}
 use native.Mathlib.Omega.{arith}
-use lib.ListN.{length-drop}
-use lib.Seq.{getD-drop}
+use Rattle.trade.specs.Limits.{mostNodes}
+use Rattle.plans.proofs.Line.{zeros}
 use Rattle.admission.proofs.Formed.{length-plan, plan-within}
-use Rattle.admission.proofs.Keeping.{left, kept-none, kept-more}
+use Rattle.admission.proofs.Keeping.{kept-more, kept-last}
 use borrow.Author.Needs.{needs}
 use Rattle.admission.proofs.figures.keep.Statement.{statement}
 use Rattle.admission.proofs.figures.keep.Tie as tie
 use Rattle.admission.proofs.figures.keep.Reads as reads
 use Rattle.admission.proofs.figures.keep.Lts as lts
+use Rattle.admission.proofs.figures.fill.Reads as fill-reads
+use Rattle.admission.proofs.figures.plan_at.Reads as plan-at-reads
 use Rattle.plans.proofs.columns.gather.Reads as gather-reads
 
--- src/figures.rt:92:14
-mul-at : tie.Need-mul-at
-mul-at c = search needs
-
--- src/figures.rt:93:24
-add-if1 : tie.Need-add-if1
-add-if1 c = search needs
-
--- src/figures.rt:94:9
+-- src/figures.rt:114:9
 returns : tie.Need-returns
-returns c = kept-none _ _ _ _ _ (omega arith)
+returns c = search needs
 
+add-if2 : tie.Need-add-if2
+add-if2 c = search needs
+
+returns-2 : tie.Need-returns-2
+returns-2 c = kept-last _ _ _ _ _ _ (c .if2 .taken)
+
+-- src/figures.rt:117:9
 plan-at-requires : tie.Need-plan-at-requires
-plan-at-requires c κs =
-    let formed = c .before .before .before .before .before .before .pre .0 .0 in
-    (omega (arith, formed .most), omega (arith, formed .recorded))
+plan-at-requires c κs = search needs
 
--- src/figures.rt:96:36
-mul-gather : tie.Need-mul-gather
-mul-gather c = search needs
+-- src/figures.rt:118:36
+slice-aggregate-gather : tie.Need-slice-aggregate-gather
+slice-aggregate-gather c = search needs
 
--- src/figures.rt:96:36
-sub-gather : tie.Need-sub-gather
-sub-gather c = search needs
-
--- src/figures.rt:96:36
-part-gather-start : tie.Need-part-gather-start
-part-gather-start c = search needs
-
--- src/figures.rt:96:36
-part-gather-end : tie.Need-part-gather-end
-part-gather-end c = search needs
-
--- src/figures.rt:96:5
+-- src/figures.rt:118:5
 gather-requires : tie.Need-gather-requires
 gather-requires c κs =
-    let start = c .before .before .before .before .before .before .before .before in
-    let a = start .args in
-    let columns = a .columns .now in
-    let formed = start .pre .0 .0 in (
-      rw (c .before .plan-at .ensures) (length-plan (a .l + 1) (now (a .rows)) (now (a .records)) (now (a .steps)) formed (a .l) (omega arith)),
-      rw (c .before .plan-at .ensures) (plan-within (a .l + 1) (now (a .rows)) (now (a .records)) (now (a .steps)) formed (a .l) (omega arith)),
-      rw (left columns (64 * a .l)) (omega (arith, length-drop (64 * a .l) columns)),
-      λ x h. rw (left columns (64 * a .l)) (getD-drop (64 * a .l) columns x 0 ∙ start .pre .0 .1 (64 * a .l + x) (omega arith)),
-      start .pre .1 (omega arith),
+    let s = c .before .before .before .before .before .before .before .before .before in
+    let a = s .args in
+    let plan = c .before .plan-at .ensures in (
+      rw plan (length-plan (a .flows) (now (a .rows)) (now (a .records)) (now (a .steps)) (s .pre .0 .0) (a .h) (s .pre .0 .1)),
+      rw plan (plan-within (a .flows) (now (a .rows)) (now (a .records)) (now (a .steps)) (s .pre .0 .0) (a .h) (s .pre .0 .1)),
+      omega arith,
+      λ x h. zeros 64 x,
+      omega (arith, s .pre .1 (omega arith) .0 .size),
     )
 
--- src/figures.rt:82:1
+-- src/figures.rt:119:10
+slice-aggregate-fill : tie.Need-slice-aggregate-fill
+slice-aggregate-fill c = search needs
+
+-- src/figures.rt:119:5
+fill-requires : tie.Need-fill-requires
+fill-requires c κs =
+    let s = c .before .before .before .before .before .before .before .before .before .before .before .before .before in
+    let a = s .args in
+    let formed = s .pre .0 .0 in (
+      (
+        s .pre .0 .1,
+        formed .most,
+        formed .recorded,
+        s .pre .1 (omega arith) .1,
+        omega (arith, c .before .before .before .gather .ensures .size),
+      ),
+      λ l b k h.
+          let within = plan-within (a .flows) (now (a .rows)) (now (a .records)) (now (a .steps)) formed l b k h in
+          (within .sender .numbered, within .receiver .numbered),
+    )
+
+-- src/figures.rt:100:1
 same-length : tie.Need-same-length
 same-length c = search needs
 
--- src/figures.rt:82:1
-returns-2 : tie.Need-returns-2
-returns-2 c = kept-more _ _ _ _ _ _ (omega arith) (rw (c .before .before .before .before .plan-at .ensures) at (c .before .before .gather .ensures))
+-- src/figures.rt:100:1
+returns-3 : tie.Need-returns-3
+returns-3 c =
+    let s = c .before .before .before .before .before .before .before .before .before .before .before .before .before .before .before .before in
+    let a = s .args in
+    kept-more (a .flows) (now (a .rows)) (now (a .records)) (now (a .steps)) (now (a .disturbers)) (c .before .before .before .before .before .before .gather .last .1 .1 .1 .0) (a .h) (s .pre .0 .0)
+    (s .pre .1 (omega arith) .0) (s .pre .0 .1) (rw (c .before .before .before .before .before .before .before .before .plan-at .ensures) at (c .before .before .before .before .before .before .gather .ensures .columns)) (now (a .square)) (c .before .before .fill .last .1 .1 .1 .1 .1 .0)
+    (c .before .before .fill .ensures)
 
 pub keep-spec : {M : Type 1} → statement M
 keep-spec =
     tie.close
     (tie.spec
-    mul-at
-    add-if1
     returns
+    add-if2
+    returns-2
     plan-at-requires
-    mul-gather
-    sub-gather
-    part-gather-start
-    part-gather-end
+    slice-aggregate-gather
     gather-requires
+    slice-aggregate-fill
+    fill-requires
     same-length
-    returns-2)
+    returns-3)

@@ -17,22 +17,17 @@ use Rattle.admission.specs.Formed.{Formed, planAt}
 use Rattle.admission.specs.Kept.{keptAt, figureBy, FilledIn, Kept, KeptMore}
 use Rattle.admission.proofs.Formed.{length-plan, plan-within, figure-plans}
 
--- the figures of flow h filled in, on the flows below it and above l
-pub record Filling (l h : ℕ) (figure : ℕ → ℕ) (before square : List ℕ) : Type 0 where
-  pub size : length square ≡ length before
-  pub own : (k : ℕ) → h < k → k < l → keptAt square k h ≡ figure k
-  pub others : (k g : ℕ) → g < mostFlows → (g ≡ h → ⊥) → keptAt square k g ≡ keptAt before k g
-
+-- the figures of flow h filled in on the flows below it, as far as flow l
 module _ (h : ℕ) (figure : ℕ → ℕ) (before : List ℕ) (few : h < mostFlows) where
-  pub filling-none : Filling (suc h) h figure before before
+  pub filling-none : FilledIn (suc h) h figure before before
   filling-none = record { size = refl; own = λ k a b. absurd (omega arith); others = λ k g a n. refl }
 
   -- one more
   pub filling-more :
       (l : ℕ) (square : List ℕ)
       → mostFlows * l + h < length square
-      → Filling l h figure before square
-      → Filling (suc l) h figure before (set square (mostFlows * l + h) (figure l))
+      → FilledIn l h figure before square
+      → FilledIn (suc l) h figure before (set square (mostFlows * l + h) (figure l))
   filling-more l square room f =
       record {
         size = length-set square (mostFlows * l + h) (figure l) ∙ f .size;

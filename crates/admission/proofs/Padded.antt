@@ -5,12 +5,13 @@ use mathlib.Core.Path.{_≡_, sym, _∙_}
 use mathlib.Core.List.{List}
 use mathlib.Core.Logic.{⊎-elim}
 use native.Mathlib.Omega.{arith}
-use lib.ListN.{length, getD, set, replicate, length-append, length-set, length-replicate, getD-replicate, List·getD-append, List·getD-eq-default}
+use lib.ListN.{length, getD, set, replicate, length-append, length-set, length-replicate, List·getD-append}
 use lib.Seq.{ext-getD, getD-append-add, getD-set-same, getD-set-other}
 use Rattle.trade.specs.First.{listTo, listFrom}
 use Rattle.trade.specs.Bytes.{padded}
 use Rattle.trade.proofs.First.{lt-or-ge}
 use Rattle.trade.proofs.Sums.{length-listTo, getD-listTo}
+use Rattle.plans.proofs.Line.{zeros}
 
 -- a list of room places that has a figure's values at the indices below n, and zeros behind
 abbrev pub filled : ℕ → (ℕ → ℕ) → ℕ → List ℕ
@@ -34,12 +35,6 @@ module _ (room : ℕ) (figure : ℕ → ℕ) where
       let k : ℕ = i - n in
       let e : i ≡ length (listTo figure n) + k = omega (arith, length-listTo figure n) in
       rw e (getD-append-add (listTo figure n) (replicate (room - length (listTo figure n)) 0) k 0 ∙ zeros (room - length (listTo figure n)) k)
-    where
-      zeros : (m k : ℕ) → getD {A = ℕ} (replicate m 0) k 0 ≡ 0
-      zeros m k =
-          ⊎-elim (λ (b : k < m). getD-replicate m k 0 0 b)
-          (λ (b : m ≤ k). List·getD-eq-default (replicate m 0) 0 (omega (arith, length-replicate {A = ℕ} m 0)))
-          (lt-or-ge k m)
 
   -- it starts as zeros
   pub filled-none : filled room figure 0 ≡ replicate room 0

@@ -16,8 +16,8 @@ use Rattle.plans.specs.Plan.{planIn}
 use Rattle.plans.specs.Columns.{matrixBy}
 use Rattle.plans.proofs.Line.{worst-at-most}
 use Rattle.admission.specs.Formed.{startOf, planAt}
-use Rattle.admission.specs.Kept.{figureBy}
-use Rattle.admission.proofs.Keeping.{Filling, filling-none, filling-more}
+use Rattle.admission.specs.Kept.{figureBy, FilledIn}
+use Rattle.admission.proofs.Keeping.{filling-none, filling-more}
 use Rattle.admission.proofs.figures.fill.Statement.{statement}
 use Rattle.admission.proofs.figures.fill.Tie as tie
 use Rattle.admission.proofs.figures.fill.Reads as reads
@@ -33,7 +33,7 @@ Inv-loop columns records steps flows h square₀ start₀ l₀ square start l =
     × (h < l)
     × (start ≡ startOf records l)
     × (start ≤ mostId * l)
-    × Filling l h (λ k. figureBy columns (planAt records steps k)) square₀ square
+    × FilledIn l h (λ k. figureBy columns (planAt records steps k)) square₀ square
 
 abbrev μ-loop : tie.MeasureT-loop
 μ-loop columns records steps flows h square₀ start₀ l₀ square start l = flows - l

@@ -1,12 +1,4 @@
--- Laws that the proofs of this crate's functions cite.
-pub mod Words
-pub mod BadRow
-pub mod BadRecord
-pub mod BadStep
-pub mod Counts
-pub mod OwnSections
-pub mod Frames
-pub mod Opening
-pub mod Pasting
-pub mod Writing
+-- Laws that the proofs of this crate's functions, and those above it, cite.
+pub mod PartsLaws
+pub mod OpenBookLaws
 pub mod Unique

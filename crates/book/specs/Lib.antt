@@ -1,6 +1,2 @@
 -- Definitions that the contracts of this crate cite beside those of the trade.
-pub mod Records
-pub mod Steps
 pub mod Frame
-pub mod Table
-pub mod Written

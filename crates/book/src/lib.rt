@@ -1,9 +1,2 @@
-// Flow books: their parts, codes 1 to 8, the table in memory, reading and writing.
-mod at_once;
-pub mod numbers;
+// Flow books on a lent slice: the trailer, where the parts lie, and codes 1 to 8.
 pub mod parts;
-pub mod records;
-pub mod rows;
-pub mod steps;
-pub mod table;
-pub mod written;

@@ -1,4 +1,3 @@
-// What the programs print, and the numbers in it.
+// What the programs print.
 pub mod lines;
 pub mod listed;
-pub mod numbers;

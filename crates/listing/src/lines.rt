@@ -2,9 +2,9 @@
 ghost use Prim.Native.Nat.{_≤_};
 ghost use lib.ListN.{length};
 ghost use Rattle.trade.specs.Limits.{grantBytes};
-use crate::numbers::long_at;
-use book::numbers::word_at;
 use libc::STDOUT_FILENO;
+use numbers::numbers::long_at;
+use numbers::numbers::word_at;
 use trade::Answer;
 use trade::Flow;
 

@@ -1,12 +1,5 @@
--- Laws that belong to no one function.
-pub mod Line
-pub mod Bits
-pub mod Counts
-pub mod Joining
-pub mod Spreading
-pub mod Gathering
-pub mod Holding
-pub mod Unique
-pub mod Parts
+-- Laws that the proofs of this crate's functions, and those above it, cite.
+pub mod StepsLaws
 pub mod Callee
-pub mod Held
+pub mod ViewLaws
+pub mod Unique

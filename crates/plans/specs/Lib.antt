@@ -1,7 +1,2 @@
--- What the contracts of transmissions on lent rows and steps speak of.
-pub mod Network
-pub mod Line
-pub mod Columns
+-- Definitions that the contracts of this crate cite beside those of the trade.
 pub mod Plan
-pub mod Mask
-pub mod Grants

@@ -1,8 +1,3 @@
-// Transmissions on lent rows and steps: who disturbs whom, what conflicts, how far one plan holds up another, and the grants of a slot.
-pub mod columns;
-pub mod conflict;
-pub mod grants;
-pub mod interference;
-pub mod mask;
+// Plans on lent steps: a step read where it lies, the part that holds a plan, and the view of it.
 pub mod steps;
 pub mod view;

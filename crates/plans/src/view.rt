@@ -1,8 +1,7 @@
 // A view of a plan: its steps, held where they lie in the lent book. Each function takes the view apart, or makes it, and leaves the
 // work to one of `steps` on the slice. Whoever has a steps section calls `plan_step`, whose parameters are plain.
 ghost use mathlib.Core.Path.{_≡_};
-ghost use Rattle.plans.specs.Line.{stepsIn};
-ghost use Rattle.plans.specs.Plan.{stepOr, planStep};
+ghost use Rattle.plans.specs.Plan.{stepsIn, stepOr, planStep};
 use crate::steps::plan_part;
 use crate::steps::step_count;
 use crate::steps::step_or_none;

@@ -1,6 +1,6 @@
 // The three calls of the radio stack, written in C. Each answers one number: code × 65,536 plus the number that goes with the code.
 ghost use Rattle.radio.specs.Calls.{AnswersCheck, AnswersStart, AnswersAdvance};
-use admission::acceptance::check;
+use bounds::acceptance::check;
 use run::advance::advance;
 use run::start::start;
 

@@ -1,11 +1,11 @@
 // What a request hands over, taken from standard input. Where the input ends too soon, `came` is false.
 ghost use Rattle.io.specs.Counts.{Counts};
-use book::numbers::word_at;
-use book::records::record_at;
-use book::table::Table;
 use libc::STDIN_FILENO;
-use listing::numbers::WORDS;
-use listing::numbers::long_at;
+use numbers::numbers::WORDS;
+use numbers::numbers::long_at;
+use numbers::numbers::word_at;
+use sections::records::record_at;
+use table::table::Table;
 use trade::Flow;
 use trade::Node;
 use trade::Plan;

@@ -15,10 +15,10 @@
 mod input;
 mod output;
 
-use admission::change::add;
-use admission::change::remove;
-use book::table::read;
-use book::written::write;
+use changes::change::add;
+use changes::change::remove;
+use table::table::read;
+use table::written::write;
 
 // So many requests are answered in a run.
 const MOST: u64 = 1_000_000;

@@ -1,6 +1,6 @@
 // What a call answers, put on standard output.
-use book::table::Table;
 use libc::STDOUT_FILENO;
+use table::table::Table;
 use trade::Answer;
 
 pub fn put(bytes: &[u8]) {

@@ -1,7 +1,3 @@
 -- Definitions that the contracts of this crate cite beside those of the trade.
-pub mod States
-pub mod Turns
-pub mod Slots
-pub mod Refusals
-pub mod Dues
+pub mod Idle
 pub mod Calls

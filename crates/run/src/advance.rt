@@ -1,14 +1,14 @@
 // ADVANCE a run by one slot.
 ghost use Rattle.run.specs.Calls.{Advances};
-use crate::area::read_run;
-use crate::area::write_run;
-use crate::due::due_in;
-use crate::refusals::answer_in_doubt;
-use crate::slot::run_slot;
+use area::area::read_run;
+use area::area::write_run;
+use area::due::due_in;
+use area::refusals::answer_in_doubt;
 use book::parts::open_book;
 use book::parts::records_of;
 use book::parts::rows_of;
 use book::parts::steps_of;
+use slot::slot::run_slot;
 use trade::Answer;
 use trade::Grant;
 use trade::Run;

@@ -1,14 +1,14 @@
 // START a run of a book that check accepts.
-ghost use Rattle.admission.specs.Formed.{Formed};
-ghost use Rattle.run.specs.States.{Idle};
+ghost use Rattle.sections.specs.Formed.{Formed};
+ghost use Rattle.run.specs.Idle.{Idle};
 ghost use Rattle.run.specs.Calls.{Starts};
-use crate::area::write_run;
-use admission::bounds::bounds_of;
+use area::area::write_run;
 use book::parts::open_book;
 use book::parts::records_of;
 use book::parts::rows_of;
 use book::parts::steps_of;
-use book::records::len_at;
+use bounds::bounds::bounds_of;
+use sections::records::len_at;
 use trade::Answer;
 use trade::Progress;
 use trade::Run;

@@ -1,16 +1,16 @@
 -- The bound is admissible and nothing smaller is; facts are accepted exactly when every flow has an admissible R. Leans on First.
 -- Assumes nothing.
-use Prim.Native.Nat.{ℕ, zero, suc, _+_, _-_, _≤_, _<_}
-use mathlib.Core.Path.{_≡_, refl, sym, _∙_, ap, ap₂}
-use mathlib.Core.Bool.{Bool, true, false, not, _&&_}
+use Prim.Native.Nat.{ℕ, suc, _-_, _≤_, _<_}
+use mathlib.Core.Path.{_≡_}
+use mathlib.Core.Bool.{true, false, not, _&&_}
 use mathlib.Core.Logic.{_↔_, ⊎-elim}
 use native.Mathlib.Omega.{arith}
 use lib.Dec.{leb}
-use borrow.Author.Tests.{leb-true, leb-false, le-leb, lt-leb, not-true, not-false}
+use borrow.Author.Tests.{leb-true, leb-false, le-leb, not-true, not-false}
 use Rattle.trade.specs.First.{first, some}
 use Rattle.trade.specs.Facts.{Facts}
 use Rattle.trade.specs.Bound.{slotsNeeded, Admissible, admissible, boundBy, bound, boundless, accepted}
-use Rattle.trade.proofs.First.{bool-cases, not-both, and-true, lt-or-ge, first-within, first-before, first-holds, some-true, some-false, some-none}
+use Rattle.trade.proofs.First.{bool-cases, not-both, and-true, lt-or-ge, first-before, first-holds, some-false, some-none}
 
 -- the test is the rule
 pub admissible-rule : (f : Facts) (carry : ℕ → ℕ) (l R : ℕ) → admissible f carry l R ≡ true → Admissible f carry l R

@@ -1,15 +1,13 @@
 -- Conflict is symmetric, and what a conflict-free set is by its pairs. Leans on First. Assumes nothing.
-use Prim.Native.Nat.{ℕ, zero, suc, _<_}
-use mathlib.Core.Path.{_≡_, refl, sym, _∙_, ap, ap₂}
-use mathlib.Core.Bool.{Bool, true, false, not, _&&_, _||_, or-comm, or-assoc}
+use Prim.Native.Nat.{ℕ}
+use mathlib.Core.Path.{_≡_, refl, sym, _∙_, ap}
+use mathlib.Core.Bool.{Bool, true, false, not, _||_}
 use mathlib.Core.Logic.{⊎-elim}
 use mathlib.Core.List.{List, [], _∷_, _++_}
-use native.Mathlib.Omega.{arith}
 use lib.Dec.{eqb}
-use lib.ListN.{length, getD}
 use borrow.Author.Tests.{eqb-true, eqb-false, eq-eqb, ne-eqb, not-true}
 use Rattle.trade.specs.Conflict.{meet, conflict, conflictsWith, conflictFree}
-use Rattle.trade.proofs.First.{bool-cases, not-both, and-true, or-false}
+use Rattle.trade.proofs.First.{bool-cases, and-true, or-false}
 use Rattle.trade.specs.declared.node.Transmission.{Transmission}
 
 pub eqb-comm : (a b : ℕ) → eqb a b ≡ eqb b a

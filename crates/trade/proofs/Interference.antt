@@ -2,15 +2,15 @@
 -- line of figures gives, worked over once for each step of h. Leans on Sums. Assumes nothing.
 use Prim.Native.Nat.{ℕ, zero, suc, _+_, _-_, _≤_, _<_, max}
 use mathlib.Core.Path.{_≡_, refl, sym, _∙_, ap, ap₂}
-use mathlib.Core.Bool.{Bool, true, false, cond}
+use mathlib.Core.Bool.{Bool}
 use mathlib.Core.List.{List, [], _∷_}
 use native.Mathlib.Omega.{arith}
-use native.Mathlib.Nat.{le-trans, add-le-add}
-use lib.ListN.{length, getD, replicate, length-replicate, getD-replicate}
+use native.Mathlib.Nat.{le-trans, add-le-add, add-suc, zero-add}
+use lib.ListN.{getD, replicate}
 use Rattle.trade.specs.First.{largestFrom}
 use Rattle.trade.specs.Facts.{Facts}
 use Rattle.trade.specs.Interference.{Matrix, one, Choice, chosen, choose, countOf, worst, worstPath, matrix, interference}
-use Rattle.trade.proofs.Sums.{largest-above, largest-below, largest-reached, largest-cong}
+use Rattle.trade.proofs.Sums.{largest-above, largest-reached, largest-cong}
 
 -- every choice counts at most the worst
 pub choice-at-most : (marks : Matrix) (rows : ℕ) {i k : ℕ} {cs : List ℕ} (j : ℕ) → Choice rows i k cs → countOf marks j cs ≤ worst marks rows i j k
@@ -112,3 +112,24 @@ interference-by-line f l h =
     sym
     (ap (λ (xs : List ℕ). getD xs 0 0) (line-worsts (matrix f l h) (f .len l) 0 (f .len h))
     ∙ worsts-head (matrix f l h) (f .len l) 0 0 (f .len h) (f .len l) (omega arith))
+
+-- matrices that agree at every step of l and of h, the columns of one standing so many places further, have the same worst path
+pub worst-shifted :
+    (marks other : Matrix) (rows d k i j : ℕ)
+    → ((c b : ℕ) → c < rows → b < j + k → marks c (d + b) ≡ other c b)
+    → worst marks rows i (d + j) k ≡ worst other rows i j k
+unfolding worst
+worst-shifted marks other rows d zero i j same = refl
+worst-shifted marks other rows d (suc k) i j same =
+    largest-cong _ _ i (rows - i)
+    (λ c l u.
+    ap₂ (λ (m : Bool) (w : ℕ). one m + w) (same c j (omega arith) (omega arith))
+    (rw (← add-suc d j) (worst-shifted marks other rows d k c (suc j) (λ e b g h. same e b g (omega arith)))))
+
+pub paths-agree :
+    (marks other : Matrix) (rows columns : ℕ)
+    → ((i j : ℕ) → i < rows → j < columns → marks i j ≡ other i j)
+    → worstPath marks rows columns ≡ worstPath other rows columns
+unfolding worstPath
+paths-agree marks other rows columns e =
+    worst-shifted marks other rows 0 columns 0 0 (λ c b l h. rw (zero-add b) (e c b l (omega arith)))

@@ -1,7 +1,7 @@
 -- The number that goes with an answer of check, start or advance is small enough to be packed for C. Leans on Answers and Valid.
 -- Assumes nothing.
-use Prim.Native.Nat.{ℕ, zero, suc, _+_, _*_, _≤_, _<_}
-use mathlib.Core.Path.{_≡_, refl, sym, _∙_, ap}
+use Prim.Native.Nat.{ℕ, zero, suc, _+_, _≤_, _<_}
+use mathlib.Core.Path.{_≡_}
 use mathlib.Core.Bool.{Bool, true, false, cond, not, _&&_}
 use mathlib.Core.Logic.{_⊎_, inl, inr, ⊎-elim}
 use mathlib.Core.List.{List, [], _∷_, _++_}
@@ -9,10 +9,10 @@ use native.Mathlib.Omega.{arith}
 use lib.Dec.{ltb}
 use lib.ListN.{length, length-append}
 use borrow.Author.Tests.{eqb-true, ltb-false}
-use Rattle.trade.specs.Limits.{mostNodes, mostFlows, mostSteps, packing, areaBytes, grantBytes, endOfClock}
+use Rattle.trade.specs.Limits.{mostNodes, mostFlows, mostSteps, packing, endOfClock}
 use Rattle.trade.specs.First.{first, some, sumTo}
 use Rattle.trade.specs.Facts.{Facts, said, firstStep, allSteps}
-use Rattle.trade.specs.Answers.{done, refused, isDone, given, givenFirst, firstOf, on, noNumber}
+use Rattle.trade.specs.Answers.{refused, isDone, given, givenFirst, firstOf, on, noNumber}
 use Rattle.trade.specs.Codes.{outside, code1, code2, code3, code4, code5, code6, code7, code8, code9, code10, code11, code12, code13, badRow, badRecord, badStep, badPlace}
 use Rattle.trade.specs.Slot.{State, Rule, going, granted}
 use Rattle.trade.specs.Area.{stateIn}
@@ -20,7 +20,7 @@ use Rattle.trade.specs.Calls.{Starting, Advancing, bookRules, checkRules
 use Rattle.trade.specs.declared.answer.Answer.{Answer}
 use Rattle.trade.proofs.First.{bool-cases, first-within, or-false}
 use Rattle.trade.proofs.Sums.{sum-most}
-use Rattle.trade.proofs.Answers.{Passed, passed-none, passed-more, passed-head, passed-tail, passed-first, passed-others, firstOf-rule, given-passed}
+use Rattle.trade.proofs.Answers.{Passed, passed-none, passed-more, passed-head, passed-tail, passed-first, firstOf-rule, given-passed}
 use Rattle.trade.proofs.Valid.{valid}
 use Rattle.trade.proofs.Slot.{going-goes, going-stays}
 

@@ -2,18 +2,18 @@
 -- their steps conflict, and an unfinished flow is left out only if it conflicts with a grant of a flow above it. Leans on Conflict.
 -- Assumes nothing.
 use Prim.Native.Nat.{ℕ, zero, suc, _+_, _≤_, _<_}
-use mathlib.Core.Path.{_≡_, refl, sym, _∙_, ap, ap₂, subst}
-use mathlib.Core.Bool.{Bool, true, false, cond, not, _&&_, _||_}
+use mathlib.Core.Path.{_≡_, refl, sym, _∙_, ap}
+use mathlib.Core.Bool.{Bool, true, false, not, _&&_, _||_}
 use mathlib.Core.Logic.{_⊎_, inl, inr, ⊎-elim}
 use mathlib.Core.List.{List, [], _∷_, _++_, map, map-append}
 use native.Mathlib.Omega.{arith}
 use lib.Dec.{eqb}
-use borrow.Author.Tests.{eqb-true, eqb-false, eq-eqb, ne-eqb, not-true, not-false}
+use borrow.Author.Tests.{eqb-true, eqb-false, eq-eqb, ne-eqb, not-true}
 use Rattle.trade.specs.Facts.{Facts}
 use Rattle.trade.specs.Conflict.{conflict, conflictsWith, conflictFree}
 use Rattle.trade.specs.Slot.{State, Rule, going, greedy, granted, among, unfinished, nextStep}
 use Rattle.trade.specs.declared.node.Transmission.{Transmission}
-use Rattle.trade.proofs.First.{bool-cases, not-both, and-true, or-false, or-cases, or-right, lt-or-ge}
+use Rattle.trade.proofs.First.{bool-cases, not-both, and-true, or-cases, or-right, lt-or-ge}
 use Rattle.trade.proofs.Conflict.{free-snoc}
 
 -- who is among a list with one more at its end

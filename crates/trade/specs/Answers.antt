@@ -1,7 +1,7 @@
 -- How a call answers: a code and the number that goes with it. Leans on Limits and First.
 use Prim.Native.Nat.{ℕ, _+_, _*_}
 use mathlib.Core.Bool.{Bool, true, false, cond}
-use mathlib.Core.List.{List, [], _∷_, _++_, map}
+use mathlib.Core.List.{List, [], _∷_, map}
 use lib.Dec.{eqb}
 use Rattle.trade.specs.Limits.{packing}
 use Rattle.trade.specs.First.{first, some}

@@ -1,18 +1,18 @@
 -- The seven calls: for all that a call is handed, its answer, what it returns beside it, and what it leaves in lent memory, done or
 -- refused. Leans on Codes and all below it.
-use Prim.Native.Nat.{ℕ, suc, pred, _+_, _-_, _*_}
+use Prim.Native.Nat.{ℕ, suc, pred, _+_, _*_}
 use mathlib.Core.Bool.{cond}
 use mathlib.Core.List.{List, [], _∷_, _++_}
 use lib.ListN.{length, take, drop, replicate}
 use Rattle.trade.specs.Limits.{mostFlows, recordBytes, stepBytes, areaBytes, grantBytes}
 use Rattle.trade.specs.First.{listTo}
-use Rattle.trade.specs.Bytes.{twoBytes, part, over, padded}
+use Rattle.trade.specs.Bytes.{twoBytes, over, padded}
 use Rattle.trade.specs.Layout.{Sections, sectionsOf}
 use Rattle.trade.specs.Facts.{Facts, factsOf, said, firstStep}
 use Rattle.trade.specs.Table.{used, bookOf, tableOf, emptyTable}
 use Rattle.trade.specs.Answers.{isDone, firstOf, on, noNumber}
 use Rattle.trade.specs.Bound.{bound}
-use Rattle.trade.specs.Slot.{State, atStart, granted, grantOf, grantsOf, nextState}
+use Rattle.trade.specs.Slot.{atStart, granted, grantOf, grantsOf, nextState}
 use Rattle.trade.specs.Area.{stateIn, areaOf}
 use Rattle.trade.specs.Codes.{code1, code2, code3, code4, code5, code6, code7, code8, code9, code10, code11, code12, code13, code14, code15Adding, code15Removing}
 use Rattle.trade.specs.declared.answer.Answer.{Answer}

@@ -16,7 +16,7 @@ use Rattle.trade.specs.Answers.{done, refused}
 use Rattle.trade.specs.Conflict.{conflict}
 use Rattle.trade.specs.Interference.{matrix, worstPath, interference}
 use Rattle.trade.specs.Slot.{grantsOf}
-use Rattle.trade.specs.Calls.{readOf, checkOf, writeOf, addOf, removeOf, startOf, advanceOf, Advanced, recordOf}
+use Rattle.trade.specs.Calls.{checkOf, writeOf, addOf, removeOf, startOf, advanceOf, Advanced, recordOf}
 use Rattle.trade.specs.declared.answer.Answer.{Answer}
 use Rattle.trade.specs.declared.flow.Flow.{Flow}
 use Rattle.trade.specs.declared.node.Transmission.{Transmission}

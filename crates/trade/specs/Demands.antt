@@ -7,13 +7,13 @@ use mathlib.Core.List.{List}
 use lib.ListN.{length, getD, take, replicate}
 use Rattle.trade.specs.Limits.{mostFlows, endOfClock, areaBytes, grantBytes}
 use Rattle.trade.specs.Bytes.{Bytes, byte, word, long, over}
-use Rattle.trade.specs.Layout.{Sections, rowsDistance, sectionsOf}
+use Rattle.trade.specs.Layout.{rowsDistance, sectionsOf}
 use Rattle.trade.specs.Facts.{Facts, said, stepOf}
 use Rattle.trade.specs.Table.{InMemory, bookOf, tableOf, emptyTable}
 use Rattle.trade.specs.Answers.{done, refused}
 use Rattle.trade.specs.Conflict.{conflict}
 use Rattle.trade.specs.Bound.{Admissible}
-use Rattle.trade.specs.Calls.{Got, Checked, Writing, Written, Adding, Removing, Changed, Starting, Started, Advancing, Advanced, readAnswer, checkAnswer, writeAnswer, addAnswer, removeAnswer, startAnswer, advanceAnswer, boundsOf, withFlow, withoutFlow, startArea, flowsGranted, grantsIn, nextArea, readOf, checkOf, writeOf, addOf, removeOf, startOf, advanceOf}
+use Rattle.trade.specs.Calls.{Got, Checked, Writing, Written, Adding, Removing, Changed, Starting, Started, Advancing, Advanced, readAnswer, checkAnswer, writeAnswer, addAnswer, removeAnswer, startAnswer, advanceAnswer, withFlow, withoutFlow, startArea, flowsGranted, grantsIn, nextArea, readOf, checkOf, writeOf, addOf, removeOf, startOf, advanceOf}
 use Rattle.trade.specs.declared.answer.Answer.{Answer}
 use Rattle.trade.specs.declared.node.Transmission.{Transmission}
 

@@ -7,7 +7,6 @@ use Rattle.trade.specs.First.{sumTo}
 use Rattle.trade.specs.Bytes.{byte, bit}
 use Rattle.trade.specs.Layout.{Sections, sections, sectionsOf, field}
 use Rattle.trade.specs.declared.flow.Flow.{Flow}
-use Rattle.trade.specs.declared.node.Node.{Node}
 use Rattle.trade.specs.declared.node.Transmission.{Transmission}
 
 -- n and m; whether node x disturbs node y; each flow's id, phase, period P, deadline D and plan length L; and the steps of all

@@ -1,6 +1,6 @@
 -- Interference of a higher flow h on a flow l. Leans on Conflict and Facts.
 use Prim.Native.Nat.{ℕ, zero, suc, _+_, _-_, _≤_, _<_}
-use mathlib.Core.Bool.{Bool, true, false, cond}
+use mathlib.Core.Bool.{Bool, cond}
 use mathlib.Core.List.{List, [], _∷_}
 use Rattle.trade.specs.First.{largestFrom}
 use Rattle.trade.specs.Facts.{Facts, stepOf}

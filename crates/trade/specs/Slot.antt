@@ -1,7 +1,7 @@
 -- One slot: releases, then the choice in record order. The first releases and the rule of waiting are parameters: the phases and the
 -- greedy rule, today. Leans on Facts, Conflict and Bytes.
 use Prim.Native.Nat.{ℕ, zero, suc, _+_, _-_, _/_, _%_}
-use mathlib.Core.Bool.{Bool, true, false, cond, not, _&&_, _||_}
+use mathlib.Core.Bool.{Bool, false, cond, not, _&&_, _||_}
 use mathlib.Core.List.{List, [], _∷_, _++_, map}
 use lib.Dec.{eqb, leb, ltb}
 use Rattle.trade.specs.Bytes.{twoBytes, fourBytes}

@@ -4,46 +4,34 @@ use Rattle.book.specs.Frame.{astray}
 use borrow.Author.Needs.{needs}
 use Rattle.book.proofs.parts.is_astray.Statement.{statement}
 use Rattle.book.proofs.parts.is_astray.Tie as tie
-use Rattle.book.proofs.parts.is_astray.Reads as reads
-use Rattle.book.proofs.parts.is_astray.Lts as lts
 
--- src/parts.rt:66:16
 cast-rows : tie.Need-cast-rows
 cast-rows c = search needs
 
--- src/parts.rt:67:19
 cast-records : tie.Need-cast-records
 cast-records c = search needs
 
--- src/parts.rt:68:17
 cast-steps : tie.Need-cast-steps
 cast-steps c = search needs
 
--- src/parts.rt:69:43
 cast-result : tie.Need-cast-result
 cast-result c = search needs
 
--- src/parts.rt:69:24
 mul-result : tie.Need-mul-result
 mul-result c = search needs
 
--- src/parts.rt:69:14
 add-result : tie.Need-add-result
 add-result c = search needs
 
--- src/parts.rt:70:53
 cast-result-2 : tie.Need-cast-result-2
 cast-result-2 c = search needs
 
--- src/parts.rt:70:31
 mul-result-2 : tie.Need-mul-result-2
 mul-result-2 c = search needs
 
--- src/parts.rt:70:23
 add-result-2 : tie.Need-add-result-2
 add-result-2 c = search needs
 
--- src/parts.rt:63:1
 returns : tie.Need-returns
 unfolding astray
 returns c = refl

@@ -4,10 +4,7 @@ use native.Mathlib.Omega.{arith}
 use Rattle.trade.specs.Codes.{outside}
 use Rattle.book.proofs.parts.is_miscounted.Statement.{statement}
 use Rattle.book.proofs.parts.is_miscounted.Tie as tie
-use Rattle.book.proofs.parts.is_miscounted.Reads as reads
-use Rattle.book.proofs.parts.is_miscounted.Lts as lts
 
--- src/parts.rt:80:1
 returns : tie.Need-returns
 unfolding outside
 returns c = rw (le-ltb (c .args .flows) 0 (omega arith))

@@ -1,7 +1,7 @@
 -- `book::parts::open_book` meets its contract: the trailer decides codes 2 to 4, and the parts that it gives lie in the slice.
 -- Assumes nothing.
-use Prim.Native.Nat.{ℕ, _-_, _≤_}
-use mathlib.Core.Path.{_≡_, _∙_, sym, ap, ap₂}
+use Prim.Native.Nat.{ℕ, _-_}
+use mathlib.Core.Path.{_≡_, _∙_, sym, ap}
 use denote.Ref.{now}
 use native.Mathlib.Omega.{arith}
 use lib.ListN.{length}
@@ -9,22 +9,13 @@ use Rattle.trade.specs.Limits.{trailerBytes}
 use Rattle.trade.specs.Layout.{trailer}
 use Rattle.trade.specs.Answers.{refused}
 use Rattle.trade.specs.declared.answer.Answer.{Answer}
-use Rattle.book.specs.Frame.{trailerIn, trailerAnswer, frameBy, frameOf, noFrame, Lies}
+use Rattle.book.specs.Frame.{trailerIn, trailerAnswer, frameBy, noFrame, Lies}
 use Rattle.book.specs.declared.parts.Trailer.{Trailer}
-use Rattle.book.specs.declared.parts.Opened.{Opened}
-use Rattle.book.proofs.Words.{part-tail}
-use Rattle.book.proofs.Frames.{opened-refused, opened-done, too-short, trailer-refused, trailer-passed, in-order, lies}
+use Rattle.numbers.proofs.NumbersLaws.{part-tail}
+use Rattle.book.proofs.PartsLaws.{opened-refused, opened-done, too-short, trailer-refused, trailer-passed, in-order, lies}
 use borrow.Author.Needs.{needs}
 use Rattle.book.proofs.parts.open_book.Statement.{statement}
 use Rattle.book.proofs.parts.open_book.Tie as tie
-use Rattle.book.proofs.parts.open_book.Reads as reads
-use Rattle.book.proofs.parts.open_book.Lts as lts
-use Rattle.book.proofs.parts.frame_by.Reads as frame-by-reads
-use Rattle.book.proofs.parts.sections_answer.Reads as sections-answer-reads
-use Rattle.book.proofs.parts.shut.Reads as shut-reads
-use Rattle.book.proofs.parts.trailer_answer.Reads as trailer-answer-reads
-use Rattle.book.proofs.parts.trailer_of.Reads as trailer-of-reads
-use Rattle.trade.proofs.answer.Answer.refused.Reads as refused-reads
 
 -- the trailer that is read is the slice's, and so is its answer
 read : (c : tie.After-trailer-of) → c .trailer-of .result ≡ trailerIn (trailer (now (c .before .before .before .before .args .slice)))
@@ -51,15 +42,12 @@ framed c =
     rw (c .frame-by .ensures, read (c .before .before .before .before))
     (laid (c .before))
 
--- src/parts.rt:189:21
 refused-requires : tie.Need-refused-requires
 refused-requires c κs = search needs
 
--- src/parts.rt:189:9
 shut-requires : tie.Need-shut-requires
 shut-requires c κs = search needs
 
--- src/parts.rt:189:9
 returns : tie.Need-returns
 returns c =
     let slice = now (c .before .before .before .before .args .slice) in
@@ -67,35 +55,27 @@ returns c =
     ∙ ap (λ (a : Answer). record { answer = a; frame = noFrame }) (c .before .refused .ensures)
     ∙ sym (opened-refused slice (refused 1 0) (too-short slice (c .before .before .if1 .taken)) (λ (z : _≡_ {A = ℕ} 1 0). omega arith))
 
--- src/parts.rt:191:15
 sub-end : tie.Need-sub-end
 sub-end c = search needs
 
--- src/parts.rt:192:24
 sub-trailer-of : tie.Need-sub-trailer-of
 sub-trailer-of c = search needs
 
--- src/parts.rt:192:24
 part-trailer-of-start : tie.Need-part-trailer-of-start
 part-trailer-of-start c = search needs
 
--- src/parts.rt:192:24
 part-trailer-of-end : tie.Need-part-trailer-of-end
 part-trailer-of-end c = search needs
 
--- src/parts.rt:192:9
 trailer-of-requires : tie.Need-trailer-of-requires
 trailer-of-requires c κs = search needs
 
--- src/parts.rt:193:9
 trailer-answer-requires : tie.Need-trailer-answer-requires
 trailer-answer-requires c κs = search needs
 
--- src/parts.rt:195:9
 shut-requires-2 : tie.Need-shut-requires-2
 shut-requires-2 c κs = search needs
 
--- src/parts.rt:195:9
 returns-2 : tie.Need-returns-2
 returns-2 c =
     let slice = now (c .before .before .before .before .before .before .before .before .args .slice) in
@@ -106,21 +86,17 @@ returns-2 c =
     (trailer-refused slice (omega arith) (λ z. c .before .if2 .taken (ap (λ (r : Answer). r .code) (answered d) ∙ z)) ∙ sym (answered d))
     (c .before .if2 .taken))
 
--- src/parts.rt:197:9
 frame-by-requires : tie.Need-frame-by-requires
 frame-by-requires c κs =
     let t = in-order _ _ (passed c) in
     rw (read (c .before .before .before)) (omega arith, t .within, omega arith, omega arith)
 
--- src/parts.rt:198:9
 sections-answer-requires : tie.Need-sections-answer-requires
 sections-answer-requires c κs = framed c
 
--- src/parts.rt:200:9
 shut-requires-3 : tie.Need-shut-requires-3
 shut-requires-3 c κs = search needs
 
--- src/parts.rt:200:9
 returns-3 : tie.Need-returns-3
 returns-3 c =
     let slice = now (c .before .before .before .before .before .before .before .before .before .before .before .before .args .slice) in
@@ -131,7 +107,6 @@ returns-3 c =
     (trailer-passed slice (omega arith) (passed (c .before .before .before .before .before)) ∙ sym (d .sections-answer .ensures))
     (c .before .if3 .taken))
 
--- src/parts.rt:185:1
 returns-4 : tie.Need-returns-4
 returns-4 c =
     let slice = now (c .before .before .before .before .before .before .before .before .before .before .before .args .slice) in

@@ -1,12 +1,12 @@
 -- `book::parts::sections_answer` meets its contract: each code is that of what the slice says, and the first refusal is the answer.
 -- Assumes nothing.
-use Prim.Native.Nat.{ℕ, _*_, _≤_}
+use Prim.Native.Nat.{ℕ, _*_}
 use mathlib.Core.Path.{_≡_, _∙_, sym, ap, ap₂}
 use mathlib.Core.List.{List, [], _∷_}
 use denote.Ref.{now}
 use native.Mathlib.Omega.{arith}
 use lib.ListN.{length}
-use Rattle.trade.specs.Limits.{recordBytes, stepBytes}
+use Rattle.trade.specs.Limits.{stepBytes}
 use Rattle.trade.specs.First.{sumTo}
 use Rattle.trade.specs.Layout.{field, sectionsOf}
 use Rattle.trade.specs.Facts.{factsIn, said}
@@ -15,20 +15,10 @@ use Rattle.trade.specs.Codes.{code5, code6, code7, code8}
 use Rattle.trade.specs.declared.answer.Answer.{Answer}
 use Rattle.trade.proofs.Answers.{firstOf-refuse, firstOf-pass, firstOf-last, given-passes}
 use Rattle.book.specs.Frame.{sectionRules}
-use Rattle.book.proofs.Frames.{length-rows, length-records, length-steps, code5-lies, code6-lies, code7-passes, code7-refuses, code8-lies}
+use Rattle.book.proofs.PartsLaws.{length-rows, length-records, code5-lies, code6-lies, code7-passes, code7-refuses, code8-lies}
 use borrow.Author.Needs.{needs}
 use Rattle.book.proofs.parts.sections_answer.Statement.{statement}
 use Rattle.book.proofs.parts.sections_answer.Tie as tie
-use Rattle.book.proofs.parts.sections_answer.Reads as reads
-use Rattle.book.proofs.parts.sections_answer.Lts as lts
-use Rattle.book.proofs.parts.records_of.Reads as records-of-reads
-use Rattle.book.proofs.parts.rows_of.Reads as rows-of-reads
-use Rattle.book.proofs.parts.steps_of.Reads as steps-of-reads
-use Rattle.book.proofs.records.records_answer.Reads as records-answer-reads
-use Rattle.book.proofs.records.steps_before.Reads as steps-before-reads
-use Rattle.book.proofs.rows.rows_answer.Reads as rows-answer-reads
-use Rattle.book.proofs.steps.steps_answer.Reads as steps-answer-reads
-use Rattle.trade.proofs.answer.Answer.refused.Reads as refused-reads
 
 -- the answers of the parts are the codes of what the slice says
 five : (c : tie.After-rows-answer) → c .rows-answer .result ≡ code5 (said (now (c .before .before .before .before .before .args .slice)))
@@ -70,40 +60,33 @@ sums c =
     let a = c .before .before .before .before .before .before .before .before .before .before .before .args in
     rw (c .steps-before .ensures .0, c .before .before .before .before .before .before .before .before .before .records-of .ensures)
 
--- src/parts.rt:151:9
 records-of-requires : tie.Need-records-of-requires
 records-of-requires c κs = search needs
 
--- src/parts.rt:152:9
 steps-of-requires : tie.Need-steps-of-requires
 steps-of-requires c κs = search needs
 
--- src/parts.rt:153:37
 rows-of-requires : tie.Need-rows-of-requires
 rows-of-requires c κs = search needs
 
--- src/parts.rt:153:9
 rows-answer-requires : tie.Need-rows-answer-requires
 rows-answer-requires c κs =
     let a = c .before .before .before .before .args in
     let l = c .before .before .before .before .pre in
     (l .nodes, rw (c .rows-of .ensures, length-rows (now (a .slice)) (a .f) l) (omega arith))
 
--- src/parts.rt:155:9
 returns : tie.Need-returns
 unfolding sectionRules
 returns c =
     let e = five (c .before .before) in
     e ∙ sym (firstOf-refuse _ _ noNumber (now (c .before .before .before .before .before .before .before .args .slice)) (λ z. c .if1 .taken (ap (λ (r : Answer). r .code) e ∙ z)))
 
--- src/parts.rt:157:9
 records-answer-requires : tie.Need-records-answer-requires
 records-answer-requires c κs =
     let a = c .before .before .before .before .before .before .before .args in
     let l = c .before .before .before .before .before .before .before .pre in
     rw (c .before .before .before .before .before .records-of .ensures, length-records (now (a .slice)) (a .f) l) (omega arith)
 
--- src/parts.rt:159:9
 returns-2 : tie.Need-returns-2
 returns-2 c =
     let e = six (c .before .before) in
@@ -112,22 +95,18 @@ returns-2 c =
     (past-five (c .before .before .before)
     ∙ firstOf-refuse _ _ noNumber (now (c .before .before .before .before .before .before .before .before .before .before .args .slice)) (λ z. c .if2 .taken (ap (λ (r : Answer). r .code) e ∙ z)))
 
--- src/parts.rt:161:27
 steps-before-requires : tie.Need-steps-before-requires
 steps-before-requires c κs =
     let a = c .before .before .before .before .before .before .before .before .before .before .args in
     let l = c .before .before .before .before .before .before .before .before .before .before .pre in
     (l .flows, rw (c .before .before .before .before .before .before .before .before .records-of .ensures, length-records (now (a .slice)) (a .f) l) (omega arith))
 
--- src/parts.rt:161:8
 mul-if3 : tie.Need-mul-if3
 mul-if3 c = omega (arith, c .steps-before .ensures .1, c .before .before .before .before .before .before .before .before .before .before .before .pre .flows)
 
--- src/parts.rt:162:9
 refused-requires : tie.Need-refused-requires
 refused-requires c κs = search needs
 
--- src/parts.rt:162:9
 returns-3 : tie.Need-returns-3
 returns-3 c =
     let a = c .before .before .before .before .before .before .before .before .before .before .before .before .before .args in
@@ -139,7 +118,6 @@ returns-3 c =
     ∙ sym
     (past-six (c .before .before .before) ∙ firstOf-refuse _ _ noNumber (now (a .slice)) (λ z. let o : _≡_ {A = ℕ} 7 0 = sym (ap (λ (r : Answer). r .code) e) ∙ z in omega arith) ∙ e)
 
--- src/parts.rt:164:5
 steps-answer-requires : tie.Need-steps-answer-requires
 steps-answer-requires c κs =
     let a = c .before .before .before .before .before .before .before .before .before .before .before .before .args in
@@ -148,7 +126,6 @@ steps-answer-requires c κs =
       rw (c .before .before .before .before .before .before .before .before .before .before .records-of .ensures, ← sums (c .before), c .if3 .left) (omega arith),
     )
 
--- src/parts.rt:147:1
 returns-4 : tie.Need-returns-4
 unfolding code8 givenFirst
 returns-4 c =

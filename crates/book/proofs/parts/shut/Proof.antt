@@ -3,10 +3,7 @@ use mathlib.Core.Path.{refl}
 use Rattle.book.specs.Frame.{noFrame}
 use Rattle.book.proofs.parts.shut.Statement.{statement}
 use Rattle.book.proofs.parts.shut.Tie as tie
-use Rattle.book.proofs.parts.shut.Reads as reads
-use Rattle.book.proofs.parts.shut.Lts as lts
 
--- src/parts.rt:168:1
 returns : tie.Need-returns
 unfolding noFrame
 returns c = refl

@@ -4,53 +4,37 @@ use Rattle.book.specs.Frame.{trailerAnswer}
 use borrow.Author.Needs.{needs}
 use Rattle.book.proofs.parts.trailer_answer.Statement.{statement}
 use Rattle.book.proofs.parts.trailer_answer.Tie as tie
-use Rattle.book.proofs.parts.trailer_answer.Reads as reads
-use Rattle.book.proofs.parts.trailer_answer.Lts as lts
-use Rattle.book.proofs.parts.is_astray.Reads as is-astray-reads
-use Rattle.book.proofs.parts.is_miscounted.Reads as is-miscounted-reads
-use Rattle.trade.proofs.answer.Answer.done.Reads as done-reads
-use Rattle.trade.proofs.answer.Answer.refused.Reads as refused-reads
 
--- src/parts.rt:92:9
 refused-requires : tie.Need-refused-requires
 refused-requires c κs = search needs
 
--- src/parts.rt:92:9
 returns : tie.Need-returns
 unfolding trailerAnswer
 returns c = rw (c .refused .ensures, c .before .if1 .taken)
 
--- src/parts.rt:94:22
 cast-is-miscounted : tie.Need-cast-is-miscounted
 cast-is-miscounted c = search needs
 
--- src/parts.rt:94:40
 cast-is-miscounted-2 : tie.Need-cast-is-miscounted-2
 cast-is-miscounted-2 c = search needs
 
--- src/parts.rt:94:8
 is-miscounted-requires : tie.Need-is-miscounted-requires
 is-miscounted-requires c κs = search needs
 
--- src/parts.rt:95:9
 refused-requires-2 : tie.Need-refused-requires-2
 refused-requires-2 c κs = search needs
 
--- src/parts.rt:95:9
 returns-2 : tie.Need-returns-2
 unfolding trailerAnswer
 returns-2 c =
     rw (c .refused2 .ensures, c .before .before .before .before .before .if1 .left, sym (c .before .before .is-miscounted .ensures) ∙ c .before .if2 .taken)
 
--- src/parts.rt:97:8
 is-astray-requires : tie.Need-is-astray-requires
 is-astray-requires c κs = search needs
 
--- src/parts.rt:98:9
 refused-requires-3 : tie.Need-refused-requires-3
 refused-requires-3 c κs = search needs
 
--- src/parts.rt:98:9
 returns-3 : tie.Need-returns-3
 unfolding trailerAnswer
 returns-3 c =
@@ -61,11 +45,9 @@ returns-3 c =
       sym (c .before .before .is-astray .ensures) ∙ c .before .if3 .taken,
     )
 
--- src/parts.rt:100:5
 done-requires : tie.Need-done-requires
 done-requires c κs = search needs
 
--- src/parts.rt:87:1
 returns-4 : tie.Need-returns-4
 unfolding trailerAnswer
 returns-4 c =

@@ -3,47 +3,34 @@ use Rattle.book.specs.Frame.{trailerIn}
 use borrow.Author.Needs.{needs}
 use Rattle.book.proofs.parts.trailer_of.Statement.{statement}
 use Rattle.book.proofs.parts.trailer_of.Tie as tie
-use Rattle.book.proofs.parts.trailer_of.Reads as reads
-use Rattle.book.proofs.parts.trailer_of.Lts as lts
-use Rattle.book.proofs.numbers.word_at.Reads as word-at-reads
 
--- src/parts.rt:53:15
 word-at-requires : tie.Need-word-at-requires
 word-at-requires c κs = search needs
 
--- src/parts.rt:54:18
 word-at-requires-2 : tie.Need-word-at-requires-2
 word-at-requires-2 c κs = search needs
 
--- src/parts.rt:55:16
 word-at-requires-3 : tie.Need-word-at-requires-3
 word-at-requires-3 c κs = search needs
 
--- src/parts.rt:56:16
 shared-slice-read-t8 : tie.Need-shared-slice-read-t8
 shared-slice-read-t8 c = search needs
 
--- src/parts.rt:57:16
 shared-slice-read-t10 : tie.Need-shared-slice-read-t10
 shared-slice-read-t10 c = search needs
 
--- src/parts.rt:58:18
 shared-slice-read-t12 : tie.Need-shared-slice-read-t12
 shared-slice-read-t12 c = search needs
 
--- src/parts.rt:58:29
 array-read-t15 : tie.Need-array-read-t15
 array-read-t15 c = search needs
 
--- src/parts.rt:58:41
 shared-slice-read-t18 : tie.Need-shared-slice-read-t18
 shared-slice-read-t18 c = search needs
 
--- src/parts.rt:58:52
 array-read-t21 : tie.Need-array-read-t21
 array-read-t21 c = search needs
 
--- src/parts.rt:47:1
 returns : tie.Need-returns
 unfolding trailerIn
 returns c =

@@ -2,7 +2,7 @@
 -- Assumes nothing.
 use denote.Ref.{now}
 use borrow.Author.Needs.{needs}
-use Rattle.run.proofs.OpenBook.{OpenBook, open-book}
+use Rattle.book.proofs.OpenBookLaws.{OpenBook, open-book}
 use Rattle.listing.proofs.listed.list.Statement.{statement}
 use Rattle.listing.proofs.listed.list.Tie as tie
 

@@ -2,7 +2,7 @@
 use native.Mathlib.Omega.{arith}
 use lib.ListN.{length-take, length-drop}
 use borrow.Author.Needs.{needs}
-use Rattle.plans.proofs.Parts.{plan-cut, plan-rest, plan-past}
+use Rattle.plans.proofs.StepsLaws.{plan-cut, plan-rest, plan-past}
 use Rattle.plans.proofs.steps.plan_part.Statement.{statement}
 use Rattle.plans.proofs.steps.plan_part.Tie as tie
 

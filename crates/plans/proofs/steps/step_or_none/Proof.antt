@@ -2,7 +2,7 @@
 use mathlib.Core.Path.{sym, _∙_}
 use native.Mathlib.Omega.{arith}
 use borrow.Author.Needs.{needs}
-use Rattle.plans.proofs.Parts.{step-held, step-missing}
+use Rattle.plans.proofs.StepsLaws.{step-held, step-missing}
 use Rattle.plans.proofs.steps.step_or_none.Statement.{statement}
 use Rattle.plans.proofs.steps.step_or_none.Tie as tie
 

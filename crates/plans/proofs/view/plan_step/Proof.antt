@@ -40,9 +40,9 @@ use Rattle.trade.proofs.node.Transmission as S
 use Rattle.trade.proofs.node.Transmission.Laws as S′
 use Rattle.plans.specs.Plan.{planIn, stepOr, planStep}
 use Rattle.plans.specs.declared.view.PlanView.{PlanView}
-use Rattle.plans.proofs.Parts.{step-anywhere}
+use Rattle.plans.proofs.StepsLaws.{step-anywhere}
 use Rattle.plans.proofs.Callee.{answers}
-use Rattle.plans.proofs.Held.{Row}
+use Rattle.plans.proofs.ViewLaws.{Row}
 use Rattle.plans.proofs.view.PlanView as T
 use Rattle.plans.proofs.view.PlanView.Laws as T′
 use Rattle.plans.proofs.steps.plan_part as plan-part

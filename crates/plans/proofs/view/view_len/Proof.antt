@@ -19,7 +19,6 @@ use types.Kit.{Given, ‵, raw, _⊛_, ⋆, _$_, _∵_, !, qed, by, move, use1, 
 use types.Part.{whole, sub, look-in}
 use types.Run.{look, init, forget, stop, fld, from, load, of-opd, and-then, no-more, assigns, land, returns, enter, alloc1, alloc0, params1, pass1, pass0, free1, free0}
 use sound.WpLaws.{FmC, fmOf, WpFn-mono}
-use denote.RattleType.{owns}
 use denote.Plain.{uint-lawful}
 use denote.Builtin.{usize}
 use denote.Ref.{now}
@@ -32,10 +31,10 @@ use denote.Triple.Spec.{Meets, tripleOf}
 use denote.Triple.Table.{entered, cited}
 use denote.Triple.Walked.{says, Stays, stay-none, walkOf, goes-none, ends-at, walked, walk-meets}
 use denote.Exit.{yes}
-use Rattle.plans.specs.Line.{stepsIn}
+use Rattle.plans.specs.Plan.{stepsIn}
 use Rattle.plans.specs.declared.view.PlanView.{PlanView}
 use Rattle.plans.proofs.Callee.{answers}
-use Rattle.plans.proofs.Held.{Row, type-of, laws-of, slice-of, Own, lends}
+use Rattle.plans.proofs.ViewLaws.{Row, type-of, laws-of, slice-of, Own, lends}
 use Rattle.plans.proofs.view.PlanView.Laws as T′
 use Rattle.plans.proofs.steps.step_count as step-count
 use Rattle.plans.proofs.steps.step_count.Symbol as step-count-def

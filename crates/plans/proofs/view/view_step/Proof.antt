@@ -39,7 +39,7 @@ use Rattle.trade.proofs.node.Transmission.Laws as S′
 use Rattle.plans.specs.Plan.{stepOr}
 use Rattle.plans.specs.declared.view.PlanView.{PlanView}
 use Rattle.plans.proofs.Callee.{answers}
-use Rattle.plans.proofs.Held.{Row, type-of, laws-of, slice-of, Own, lends}
+use Rattle.plans.proofs.ViewLaws.{Row, type-of, laws-of, slice-of, Own, lends}
 use Rattle.plans.proofs.view.PlanView.Laws as T′
 use Rattle.plans.proofs.steps.step_or_none as step-or-none
 use Rattle.plans.proofs.steps.step_or_none.Symbol as step-or-none-def

@@ -12,14 +12,14 @@ use Rattle.trade.specs.Area.{stateIn}
 use Rattle.trade.specs.declared.answer.Answer.{Answer}
 use Rattle.book.specs.Frame.{openedOf}
 use Rattle.book.specs.declared.parts.Opened.{Opened}
-use Rattle.run.specs.States.{stateOf}
-use Rattle.run.specs.Refusals.{runAnswer}
-use Rattle.run.specs.Dues.{IsDue}
-use Rattle.run.specs.Slots.{Ran}
-use Rattle.run.proofs.Refusing.{slot-runs}
-use Rattle.run.proofs.Seeing.{released-once}
-use Rattle.run.proofs.OpenBook.{OpenBook, open-book}
-use Rattle.run.proofs.Advanced.{refuses, read-answer, advance-refused, book-refused, area-short, grants-short, run-refused, advance-done}
+use Rattle.slot.specs.States.{stateOf}
+use Rattle.area.specs.Refusals.{runAnswer}
+use Rattle.area.specs.Dues.{IsDue}
+use Rattle.slot.specs.Slots.{Ran}
+use Rattle.area.proofs.RefusalsLaws.{slot-runs}
+use Rattle.area.proofs.DueLaws.{released-once}
+use Rattle.book.proofs.OpenBookLaws.{OpenBook, open-book}
+use Rattle.run.proofs.AdvanceLaws.{refuses, read-answer, advance-refused, book-refused, area-short, grants-short, run-refused, advance-done}
 use borrow.Author.Needs.{needs}
 use Rattle.run.proofs.advance.advance.Statement.{statement}
 use Rattle.run.proofs.advance.advance.Tie as tie

@@ -6,12 +6,12 @@ use Rattle.trade.specs.Calls.{readAnswer, checkAnswer}
 use Rattle.trade.specs.declared.answer.Answer.{Answer}
 use Rattle.book.specs.Frame.{openedOf}
 use Rattle.book.specs.declared.parts.Opened.{Opened}
-use Rattle.admission.specs.Bounds.{boundedBy}
-use Rattle.admission.specs.declared.bounds.Checked.{Checked}
-use Rattle.admission.proofs.Checking.{check-refused, check-passed, said-bounded}
-use Rattle.run.proofs.OpenBook.{OpenBook, open-book}
-use Rattle.run.proofs.Advanced.{refuses}
-use Rattle.run.proofs.Started.{start-refused, check-refuses, start-short, start-done}
+use Rattle.bounds.specs.Bounds.{boundedBy}
+use Rattle.bounds.specs.declared.bounds.Checked.{Checked}
+use Rattle.bounds.proofs.CheckLaws.{check-refused, check-passed, said-bounded}
+use Rattle.book.proofs.OpenBookLaws.{OpenBook, open-book}
+use Rattle.run.proofs.AdvanceLaws.{refuses}
+use Rattle.run.proofs.StartLaws.{start-refused, check-refuses, start-short, start-done}
 use borrow.Author.Needs.{needs}
 use Rattle.run.proofs.start.start.Statement.{statement}
 use Rattle.run.proofs.start.start.Tie as tie

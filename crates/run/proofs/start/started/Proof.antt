@@ -9,8 +9,8 @@ use Rattle.trade.specs.Limits.{mostFlows}
 use Rattle.trade.specs.Layout.{field}
 use Rattle.trade.specs.declared.state.Progress.{Progress}
 use Rattle.trade.specs.declared.state.Run.{Run}
-use Rattle.run.specs.States.{placeOf}
-use Rattle.run.proofs.Places.{stored, unstored, unused}
+use Rattle.slot.specs.States.{placeOf}
+use Rattle.slot.proofs.Places.{stored, unstored, unused}
 use Rattle.run.proofs.start.started.Statement.{statement}
 use Rattle.run.proofs.start.started.Tie as tie
 

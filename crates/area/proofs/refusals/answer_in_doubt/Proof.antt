@@ -1,0 +1,20 @@
+-- `run::refusals::answer_in_doubt` asks the three rules where there is a doubt, and no rule where there is none. Assumes nothing.
+use mathlib.Core.Path.{sym, _∙_}
+use borrow.Author.Needs.{needs}
+use Rattle.area.proofs.refusals.answer_in_doubt.Statement.{statement}
+use Rattle.area.proofs.refusals.answer_in_doubt.Tie as tie
+
+run-answer-requires : tie.Need-run-answer-requires
+run-answer-requires c κs = search needs
+
+returns : tie.Need-returns
+returns c = search needs
+
+done-requires : tie.Need-done-requires
+done-requires c κs = search needs
+
+returns-2 : tie.Need-returns-2
+returns-2 c = c .done .ensures ∙ sym (c .before .before .before .pre .3 (c .before .if1 .left))
+
+pub answer-in-doubt-spec : {M : Type 1} → statement M
+answer-in-doubt-spec = tie.close (tie.spec run-answer-requires returns done-requires returns-2)

@@ -1,0 +1,103 @@
+-- `run::refusals::overrun_answer`: no flow passed is overrun. Assumes nothing.
+use Prim.Native.Nat.{ℕ, _-_, _≤_, _<_}
+use mathlib.Core.Path.{_≡_, sym, _∙_, ap}
+use mathlib.Core.Bool.{false}
+use mathlib.Core.List.{[]}
+use native.Mathlib.Omega.{arith}
+use denote.Ref.{now}
+use borrow.Author.Needs.{needs}
+use lib.ListN.{getD}
+use borrow.Author.Count.{below-more}
+use Rattle.trade.specs.Facts.{factsOf, factsIn, flowIn}
+use Rattle.trade.specs.Answers.{done, refused}
+use Rattle.trade.specs.Codes.{overrun}
+use Rattle.trade.specs.Run.{idleOf}
+use Rattle.trade.specs.declared.flow.Flow.{Flow}
+use Rattle.slot.specs.States.{stateOf}
+use Rattle.area.specs.Refusals.{overrunAt}
+use Rattle.area.proofs.RefusalsLaws.{code11-at, code11-none, overrun-shown}
+use Rattle.area.proofs.refusals.overrun_answer.Statement.{statement}
+use Rattle.area.proofs.refusals.overrun_answer.Tie as tie
+
+abbrev Inv-loop : tie.InvT-loop
+Inv-loop flows records slot places i₀ i =
+    (i ≤ flows)
+    × ((k : ℕ) → k < i → overrun (factsIn 0 flows [] records []) (stateOf (record { slot = slot; flows = places })) k ≡ false)
+
+abbrev μ-loop : tie.MeasureT-loop
+μ-loop flows records slot places i₀ i = flows - i
+
+-- what is asked of a flow is whether it is overrun
+asked :
+    (c : tie.After-is-overrun Inv-loop μ-loop)
+    → c .is-overrun .result
+    ≡ overrun (factsIn 0 (c .before .before .before .before .before .before .before .before .args .flows) [] (now (c .before .before .before .before .before .before .before .before .args .records)) []) (stateOf (c .before .before .before .before .before .before .before .before .args .run)) (c .before .before .before .before .loop .i)
+asked c =
+    let a = c .before .before .before .before .before .before .before .before .args in
+    let i = c .before .before .before .before .loop .i in
+    c .is-overrun .ensures
+    ∙ ap (λ (w : Flow). overrunAt w (a .run .slot) (getD (a .run .flows) i (idleOf 0))) (c .before .before .record-at .ensures)
+    ∙ overrun-shown (a .flows) (now (a .records)) (a .run) i
+
+loop-holds : tie.Need-loop-holds Inv-loop μ-loop
+loop-holds c = (omega arith, λ k h. absurd (omega arith))
+
+record-at-requires : tie.Need-record-at-requires Inv-loop μ-loop
+record-at-requires c κs = search needs
+
+array-copy-out-is-overrun : tie.Need-array-copy-out-is-overrun Inv-loop μ-loop
+array-copy-out-is-overrun c = search needs
+
+is-overrun-requires : tie.Need-is-overrun-requires Inv-loop μ-loop
+unfolding flowIn
+is-overrun-requires c κs = rw (c .before .record-at .ensures) (c .before .before .before .before .before .before .before .pre .1 (c .before .before .before .loop .i) (c .before .before .loop-test .taken))
+
+refused-requires : tie.Need-refused-requires Inv-loop μ-loop
+refused-requires c κs = search needs
+
+returns : tie.Need-returns Inv-loop μ-loop
+unfolding factsOf
+returns c =
+    let a = c .before .before .before .before .before .before .before .before .before .before .args in
+    let loop = c .before .before .before .before .before .before .loop in
+    c .refused .ensures
+    ∙ sym (code11-at (factsIn 0 (a .flows) [] (now (a .records)) []) (stateOf (a .run)) (loop .i) (omega arith) (loop .inv .1) (sym (asked (c .before .before)) ∙ c .before .if1 .taken))
+
+add-i : tie.Need-add-i Inv-loop μ-loop
+add-i c = search needs
+
+loop-less : tie.Need-loop-less Inv-loop μ-loop
+loop-less c = search needs
+
+loop-again : tie.Need-loop-again Inv-loop μ-loop
+loop-again c =
+    let loop = c .before .before .before .before .before .loop in
+    (omega arith, below-more _ _ (loop .inv .1) (sym (asked (c .before)) ∙ c .if1 .left))
+
+done-requires : tie.Need-done-requires Inv-loop μ-loop
+done-requires c κs = search needs
+
+returns-2 : tie.Need-returns-2 Inv-loop μ-loop
+unfolding factsOf
+returns-2 c =
+    let a = c .before .before .before .before .before .before .args in
+    let loop = c .before .before .loop in
+    c .done .ensures ∙ sym (code11-none (factsIn 0 (a .flows) [] (now (a .records)) []) (stateOf (a .run)) (λ k h. loop .inv .1 k (omega arith)))
+
+pub overrun-answer-spec : {M : Type 1} → statement M
+overrun-answer-spec =
+    tie.close
+    (tie.spec
+    Inv-loop
+    μ-loop
+    loop-holds
+    record-at-requires
+    array-copy-out-is-overrun
+    is-overrun-requires
+    refused-requires
+    returns
+    add-i
+    loop-less
+    loop-again
+    done-requires
+    returns-2)

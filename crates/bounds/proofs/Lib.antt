@@ -1,0 +1,9 @@
+-- Laws that the proofs of this crate's functions, and those above it, cite.
+pub mod InstancesLaws
+pub mod SmallestLaws
+pub mod Alike
+pub mod BoundsLaws
+pub mod CheckLaws
+pub mod Monotone
+pub mod Accepts
+pub mod Unique

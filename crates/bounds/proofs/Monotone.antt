@@ -1,0 +1,91 @@
+-- A bound falls, or stays, where a term of its sum does: where a flow above has a longer period, a shorter carry-in or a smaller
+-- figure. Leans on Iteration. Assumes nothing.
+use Prim.Native.Nat.{ℕ, suc, _*_, _≤_, _<_}
+use mathlib.Core.Path.{_≡_, refl}
+use mathlib.Core.Bool.{Bool, true, _&&_}
+use mathlib.Core.Logic.{⊎-elim}
+use native.Mathlib.Omega.{arith}
+use native.Mathlib.Nat.{add-le-add, mul-le-mul}
+use lib.Dec.{leb}
+use borrow.Author.Tests.{leb-true, le-leb}
+use Rattle.trade.specs.First.{first}
+use Rattle.trade.specs.Facts.{Facts}
+use Rattle.trade.specs.Interference.{interference}
+use Rattle.trade.specs.Bound.{instances, slotsNeeded, boundBy}
+use Rattle.trade.proofs.First.{not-both, and-true, lt-or-ge, first-within, first-before, first-holds}
+use Rattle.trade.proofs.Sums.{sum-mono}
+use Rattle.bounds.specs.Terms.{smallestIn}
+use Rattle.bounds.proofs.InstancesLaws.{instances-mono}
+use Rattle.bounds.proofs.SmallestLaws.{enough, bound-is-smallest}
+
+-- a test that holds wherever another does holds first no later
+first-earlier : (test other : ℕ → Bool) (n : ℕ) → ((j : ℕ) → other j ≡ true → test j ≡ true) → first test n ≤ first other n
+first-earlier test other n implies =
+    ⊎-elim
+    (λ (h : first other n < n).
+    ⊎-elim
+    (λ (l : first other n < first test n).
+    absurd (not-both (implies (first other n) (first-holds other n h)) (first-before test n (first other n) l)))
+    (λ l. l)
+    (lt-or-ge (first other n) (first test n)))
+    (λ (h : n ≤ first other n). omega (arith, first-within test n))
+    (lt-or-ge (first other n) n)
+
+-- less is needed at every R, and no more steps of its own: the smallest R is no larger
+pub smallest-mono :
+    (needed other : ℕ → ℕ) (len own deadline : ℕ)
+    → len ≤ own
+    → ((R : ℕ) → needed R ≤ other R)
+    → smallestIn needed len deadline ≤ smallestIn other own deadline
+unfolding smallestIn
+smallest-mono needed other len own deadline l less =
+    first-earlier (enough needed len deadline) (enough other own deadline) (suc deadline)
+    (λ R e.
+    let p = and-true (leb own R && leb R deadline) (leb (other R) R) e in
+    let q = and-true (leb own R) (leb R deadline) (p .0) in
+    rw (
+      le-leb len R (omega (arith, leb-true own R (q .0))),
+      q .1,
+      le-leb (needed R) R (omega (arith, leb-true (other R) R (p .1), less R)),
+    ))
+
+-- flow l has no more above it, or of its own, by one set of facts and carry-in than by another
+pub record Lighter (f g : Facts) (carry other : ℕ → ℕ) (l : ℕ) : Type 0 where
+  pub deadline : f .deadline l ≡ g .deadline l
+  pub len : f .len l ≤ g .len l
+  pub period : (h : ℕ) → h < l → (1 ≤ g .period h) × (g .period h ≤ f .period h)
+  pub carries : (h : ℕ) → h < l → carry h ≤ other h
+  pub figure : (h : ℕ) → h < l → interference f l h ≤ interference g l h
+
+module _ (f g : Facts) (carry other : ℕ → ℕ) (l : ℕ) (a : Lighter f g carry other l) where
+  pub needed-mono : (R : ℕ) → slotsNeeded f carry l R ≤ slotsNeeded g other l R
+  unfolding slotsNeeded
+  needed-mono R =
+      add-le-add (a .len)
+      (sum-mono (λ (h : ℕ). instances R (carry h) (f .period h) * interference f l h)
+      (λ (h : ℕ). instances R (other h) (g .period h) * interference g l h) l
+      (λ h b.
+      mul-le-mul
+      (instances-mono R R (carry h) (other h) (f .period h) (g .period h) (a .period h b .0) (a .period h b .1) (omega arith) (a .carries h b))
+      (a .figure h b)))
+
+  pub bound-mono : boundBy f carry l ≤ boundBy g other l
+  bound-mono =
+      rw (bound-is-smallest f carry l, bound-is-smallest g other l, a .deadline)
+      (smallest-mono (slotsNeeded f carry l) (slotsNeeded g other l) (f .len l) (g .len l) (g .deadline l) (a .len) needed-mono)
+
+-- by the same facts, a shorter carry-in
+pub carry-mono :
+    (f : Facts) (carry other : ℕ → ℕ) (l : ℕ)
+    → ((h : ℕ) → h < l → 1 ≤ f .period h)
+    → ((h : ℕ) → h < l → carry h ≤ other h)
+    → boundBy f carry l ≤ boundBy f other l
+carry-mono f carry other l period carries =
+    bound-mono f f carry other l
+    (record {
+      deadline = refl;
+      len = omega arith;
+      period = λ h b. (period h b, omega arith);
+      carries = carries;
+      figure = λ h b. omega arith;
+    })

@@ -1,0 +1,13 @@
+-- Each public function's contract leaves one result, and one content of what it was lent. The contracts are those that the check
+-- reads in the code, `Post`. Assumes nothing.
+use Rattle.trade.proofs.Unique.{OneResult, one-result}
+use Rattle.bounds.proofs.bounds.bounds_of.Kinds as bounds-of-kinds
+use Rattle.bounds.proofs.bounds.bounds_of.Reads as bounds-of
+use Rattle.bounds.proofs.acceptance.check.Kinds as check-kinds
+use Rattle.bounds.proofs.acceptance.check.Reads as check
+
+pub bounds-of-unique : OneResult 3 bounds-of-kinds.ps bounds-of-kinds.r bounds-of.Post
+bounds-of-unique κs a r r' s s' p q = one-result p q
+
+pub check-unique : OneResult 1 check-kinds.ps check-kinds.r check.Post
+check-unique κs a r r' s s' p q = λ i. record { answer = one-result (p .answer) (q .answer) i; bounds = one-result (p .bounds) (q .bounds) i }

@@ -1,0 +1,117 @@
+// The response bounds of all flows of a book or a table, and code 9.
+ghost use mathlib.Core.Path.{_≡_};
+ghost use Prim.Native.Nat.{ℕ, _+_, _*_, _≤_, _<_};
+ghost use lib.ListN.{length, getD};
+ghost use Rattle.trade.specs.Limits.{mostFlows, mostPeriod};
+ghost use Rattle.trade.specs.Layout.{field};
+ghost use Rattle.trade.specs.Facts.{factsIn};
+ghost use Rattle.trade.specs.Bound.{boundBy};
+ghost use Rattle.pairs.specs.Columns.{Disturbers};
+ghost use Rattle.sections.specs.Formed.{Formed};
+ghost use Rattle.figures.specs.Square.{HasLine};
+ghost use Rattle.bounds.specs.Bounds.{refusedBy, boundedBy};
+use crate::rising::smallest;
+use figures::figures::figures_at;
+use figures::figures::keep;
+use pairs::columns::disturbers;
+use sections::records::record_at;
+use trade::Answer;
+use trade::Flow;
+
+// An answer, and the bounds of the flows with zeros elsewhere; refused, all zeros.
+pub struct Checked {
+    pub answer: Answer,
+    pub bounds: [u16; Flow::MOST],
+}
+
+// A refusal has no bounds.
+pub(crate) fn refused(answer: Answer) -> Checked
+    ensures { λ r. ⌜ r ≡ refusedBy answer ⌝ }
+{
+    Checked {
+        answer,
+        bounds: [0; Flow::MOST],
+    }
+}
+
+// The bound of flow l, by the periods and the carry-in of the flows above it; its deadline + 1 where it has none.
+fn bound_at(
+    rows: &[u8],
+    records: &[u8],
+    steps: &[u8],
+    square: &[u8],
+    l: usize,
+    periods: &[u32; Flow::MOST],
+    carries: &[u32; Flow::MOST],
+) -> u32
+    requires { ⌜ Formed (l + 1) (now rows) (now records) (now steps) ⌝ }
+    requires { ⌜ (0 < length (now square) → HasLine (now rows) (now records) (now steps) l (now square)) ⌝ }
+    requires { ⌜ ((h : ℕ) → h < l → getD (now periods) h 0 ≡ field (now records) h 2) ⌝ }
+    requires { ⌜ ((h : ℕ) → h < l → getD (now carries) h 0 ≤ mostPeriod) ⌝ }
+    ensures { λ r. ⌜ r ≡ boundBy (factsIn 0 0 (now (rows .entry)) (now (records .entry)) (now (steps .entry))) (λ h. getD (now (carries .entry)) h 0) l ⌝ }
+{
+    let flow = record_at(records, l);
+    let figures = figures_at(rows, records, steps, square, l);
+    smallest(
+        flow.len as u32,
+        flow.deadline as u32,
+        l,
+        &figures,
+        periods,
+        carries,
+    )
+}
+
+// The bounds of all flows, or code 9 at the first flow that has none. The carry-in of a flow is its deadline. A square is lent for the
+// figures, with who disturbs whom; or none, and each figure is worked out where it is needed.
+fn bounds_with(
+    flows: usize,
+    rows: &[u8],
+    records: &[u8],
+    steps: &[u8],
+    disturbers: &[u64],
+    square: &mut [u8],
+) -> Checked
+    requires { ⌜ Formed flows (now rows) (now records) (now steps) ⌝ }
+    requires { ⌜ (0 < length (now square) → Disturbers (now rows) (now disturbers) × (mostFlows * flows ≤ length (now square))) ⌝ }
+    ensures { λ r. ⌜ r ≡ boundedBy (factsIn 0 flows (now (rows .entry)) (now (records .entry)) (now (steps .entry))) ⌝ }
+{
+    let mut bounds = [0u16; Flow::MOST];
+    let mut periods = [0u32; Flow::MOST];
+    let mut carries = [0u32; Flow::MOST];
+    let mut l = 0;
+    while l < flows {
+        let flow = record_at(records, l);
+        let bound = bound_at(rows, records, steps, square, l, &periods, &carries);
+        if (flow.deadline as u32) < bound {
+            return refused(Answer::refused(9, l as u64));
+        }
+        bounds[l] = bound as u16;
+        periods[l] = flow.period as u32;
+        carries[l] = flow.deadline as u32;
+        keep(rows, disturbers, records, steps, flows, l, square);
+        l += 1;
+    }
+    Checked {
+        answer: Answer::done(0),
+        bounds,
+    }
+}
+
+// Up to so many step bytes a square costs more than it saves.
+const FEW: usize = 48;
+
+// The bounds of all flows, or code 9.
+pub fn bounds_of(flows: usize, rows: &[u8], records: &[u8], steps: &[u8]) -> Checked
+    requires { ⌜ Formed flows (now rows) (now records) (now steps) ⌝ }
+    ensures { λ r. ⌜ r ≡ boundedBy (factsIn 0 flows (now (rows .entry)) (now (records .entry)) (now (steps .entry))) ⌝ }
+{
+    if steps.len() <= FEW {
+        let unknown = [0u64; 1];
+        let mut none = [0u8; 1];
+        return bounds_with(flows, rows, records, steps, &unknown[..0], &mut none[..0]);
+    }
+    let known = disturbers(rows);
+    let mut square = [0u8; Flow::MOST * Flow::MOST];
+    bounds_with(flows, rows, records, steps, &known, &mut square)
+}

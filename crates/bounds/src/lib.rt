@@ -1,0 +1,4 @@
+// The response bounds of the flows of a book or a table, and the check of a book.
+pub mod acceptance;
+pub mod bounds;
+mod rising;

@@ -1,0 +1,2 @@
+// Changes of a table: a flow added at a place, or removed.
+pub mod change;

@@ -1,0 +1,2 @@
+// The interference figures of the flows of a formed book.
+pub mod figures;

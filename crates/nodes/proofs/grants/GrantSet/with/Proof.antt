@@ -1,0 +1,40 @@
+-- `plans::grants::GrantSet::with` adds the nodes of the grant and the row of its sender. Assumes nothing.
+use native.Mathlib.Omega.{arith}
+use Rattle.nodes.specs.Grants.{oneMore}
+use Rattle.nodes.proofs.GrantsLaws.{holds-more}
+use borrow.Author.Needs.{needs}
+use Rattle.nodes.proofs.grants.GrantSet.with.Statement.{statement}
+use Rattle.nodes.proofs.grants.GrantSet.with.Tie as tie
+
+only-requires : tie.Need-only-requires
+only-requires c κs = search needs
+
+only-requires-2 : tie.Need-only-requires-2
+only-requires-2 c κs = search needs
+
+row-mask-requires : tie.Need-row-mask-requires
+row-mask-requires c κs = search needs
+
+only-requires-3 : tie.Need-only-requires-3
+only-requires-3 c κs = search needs
+
+returns : tie.Need-returns
+unfolding oneMore
+returns c =
+    let start = c .before .before .before .before .before .before .before .before in
+    let known = c .before .before .before .before .before .before .before .shared-slice-known in
+    let sender = c .before .before .before .before .before .before .only .ensures in
+    let receiver = c .before .before .before .before .only2 .ensures in
+    let row = c .before .before .before .row-mask .ensures in
+    let again = c .before .only3 .ensures in
+    record {
+      exact = rw (sender, receiver, row, again);
+      holds =
+          λ us h.
+          rw (sender, receiver, row, again)
+          (holds-more (start .args .rows .now) (λ i. omega (arith, known .given i)) (start .args .self) us (start .args .t) (start .pre) h);
+    }
+
+pub with-spec : {M : Type 1} → statement M
+with-spec =
+    tie.close (tie.spec only-requires only-requires-2 row-mask-requires only-requires-3 returns)

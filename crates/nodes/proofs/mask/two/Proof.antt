@@ -1,0 +1,45 @@
+-- `plans::mask::two` joins two bytes. Assumes nothing.
+use mathlib.Core.Path.{sym, _∙_}
+use Prim.Native.Nat.{_+_}
+use native.Mathlib.Omega.{arith}
+use Rattle.nodes.proofs.MaskLaws.{lowFirst-one, lowFirst-split}
+use borrow.Author.Needs.{needs}
+use Rattle.nodes.proofs.mask.two.Statement.{statement}
+use Rattle.nodes.proofs.mask.two.Tie as tie
+
+add-joined : tie.Need-add-joined
+add-joined c = search needs
+
+shared-slice-read-joined : tie.Need-shared-slice-read-joined
+shared-slice-read-joined c = search needs
+
+cast-joined : tie.Need-cast-joined
+cast-joined c = omega (arith, c .shared-slice-known2 .given (c .before .before .args .at + 1))
+
+shared-slice-read-joined-2 : tie.Need-shared-slice-read-joined-2
+shared-slice-read-joined-2 c = search needs
+
+cast-joined-2 : tie.Need-cast-joined-2
+cast-joined-2 c = omega (arith, c .shared-slice-known3 .given (c .before .before .before .args .at))
+
+joined-requires : tie.Need-joined-requires
+joined-requires c κs =
+    let args = c .before .before .before .args in
+    omega (arith, c .shared-slice-known3 .given (args .at), c .shared-slice-known3 .given (args .at + 1))
+
+returns : tie.Need-returns
+returns c =
+    let args = c .before .before .before .before .args in
+    c .joined .ensures ∙ sym (rw (lowFirst-split (args .bytes .now) 1 1 (args .at), lowFirst-one (args .bytes .now) (args .at + 1), lowFirst-one (args .bytes .now) (args .at)))
+
+pub two-spec : {M : Type 1} → statement M
+two-spec =
+    tie.close
+    (tie.spec
+    add-joined
+    shared-slice-read-joined
+    cast-joined
+    shared-slice-read-joined-2
+    cast-joined-2
+    joined-requires
+    returns)

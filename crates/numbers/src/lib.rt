@@ -1,0 +1,3 @@
+// Numbers in the bytes of a slice, and bytes put into a buffer.
+pub mod numbers;
+pub mod pasting;

@@ -1,0 +1,102 @@
+-- `plans::columns::gather` notes the steps from the last on. The loop's invariant: the columns hold the last b steps, and what lies beyond
+-- them is as lent. The measure is how many steps are left. Assumes nothing.
+use Prim.Native.Nat.{ℕ, suc, _-_, _≤_}
+use mathlib.Core.Path.{_≡_, refl, _∙_}
+use native.Mathlib.Omega.{arith}
+use native.Mathlib.Numerals.{add-one}
+use lib.ListN.{length, getD}
+use Rattle.trade.specs.Limits.{mostNodes}
+use Rattle.plans.specs.Plan.{stepsIn}
+use Rattle.pairs.specs.Columns.{Columns}
+use Rattle.pairs.proofs.SpreadLaws.{columns-none, columns-more}
+use Rattle.pairs.proofs.columns.gather.Statement.{statement}
+use Rattle.pairs.proofs.columns.gather.Tie as tie
+
+abbrev Inv-loop : tie.InvT-loop
+Inv-loop rows disturbers plan columns₀ len b₀ columns b =
+    (b ≤ len)
+    × (len ≡ stepsIn plan)
+    × (length columns ≡ length columns₀)
+    × Columns rows disturbers plan b columns
+    × ((x : ℕ) → mostNodes ≤ x → getD columns x 0 ≡ getD columns₀ x 0)
+
+abbrev μ-loop : tie.MeasureT-loop
+μ-loop rows disturbers plan columns₀ len b₀ columns b = len - b
+
+step-count-requires : tie.Need-step-count-requires Inv-loop μ-loop
+step-count-requires c κs = tt
+
+loop-holds : tie.Need-loop-holds Inv-loop μ-loop
+loop-holds c =
+    let start = c .before .before .before .before .before in
+    (omega arith, c .step-count .ensures, refl, columns-none _ _ _ _ (start .pre .3), λ x h. refl)
+
+sub-step-at : tie.Need-sub-step-at Inv-loop μ-loop
+sub-step-at c = omega arith
+
+sub-step-at-2 : tie.Need-sub-step-at-2 Inv-loop μ-loop
+sub-step-at-2 c = omega arith
+
+step-at-requires : tie.Need-step-at-requires Inv-loop μ-loop
+step-at-requires c κs = omega (arith, c .before .loop .inv .1)
+
+note-requires : tie.Need-note-requires Inv-loop μ-loop
+note-requires c κs =
+    let start = c .before .before .before .before .before .before .before .before .before in
+    let loop = c .before .before .before .loop in
+    let len : ℕ = c .before .before .before .before .step-count .result in (
+      rw (c .before .step-at .ensures) (start .pre .1 (len - 1 - loop .b) (omega (arith, loop .inv .1))),
+      omega (arith, loop .inv .1, start .pre .0),
+      omega (arith, loop .inv .2, start .pre .2),
+      start .pre .4,
+    )
+
+add-b : tie.Need-add-b Inv-loop μ-loop
+add-b c = omega arith
+
+loop-less : tie.Need-loop-less Inv-loop μ-loop
+loop-less c = omega arith
+
+loop-again : tie.Need-loop-again Inv-loop μ-loop
+loop-again c =
+    let start = c .before .before .before .before .before .before .before .before .before .before .before .before in
+    let loop = c .before .before .before .before .before .before .loop in
+    let plan = start .args .plan .now in
+    let len : ℕ = c .before .before .before .before .before .before .before .step-count .result in
+    let noted = c .before .before .note .ensures in
+    let e : len - 1 - loop .b ≡ stepsIn plan - suc (loop .b) = omega (arith, loop .inv .1) in (
+      omega arith,
+      loop .inv .1,
+      noted .size ∙ loop .inv .2,
+      rw (add-one (loop .b))
+          (columns-more (start .args .rows .now) (start .args .disturbers .now) plan (loop .b) (loop .columns) (c .before .before .note .last .1 .1 .1 .1 .0)
+          (omega (arith, loop .inv .1, start .pre .0)) (rw (c .before .before .before .before .step-at .ensures, e) at noted) (loop .inv .3)),
+      λ x h. noted .others x h ∙ loop .inv .4 x h,
+    )
+
+same-length : tie.Need-same-length Inv-loop μ-loop
+same-length c = c .before .loop .inv .2
+
+returns : tie.Need-returns Inv-loop μ-loop
+returns c =
+    let loop = c .before .loop in
+    let e : loop .b ≡ stepsIn (c .before .before .before .before .before .before .before .args .plan .now) = omega (arith, loop .inv .1) in
+    record { size = loop .inv .2; columns = rw (← e) (loop .inv .3); others = loop .inv .4 }
+
+pub gather-spec : {M : Type 1} → statement M
+gather-spec =
+    tie.close
+    (tie.spec
+    Inv-loop
+    μ-loop
+    step-count-requires
+    loop-holds
+    sub-step-at
+    sub-step-at-2
+    step-at-requires
+    note-requires
+    add-b
+    loop-less
+    loop-again
+    same-length
+    returns)

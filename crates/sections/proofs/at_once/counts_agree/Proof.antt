@@ -1,0 +1,79 @@
+-- `book::at_once::counts_agree` meets its contract: no step is bad if every node is there and the counts agree. Assumes nothing.
+use Prim.Native.Nat.{_*_, _≤_}
+use mathlib.Core.Path.{refl, sym, _∙_, ap}
+use mathlib.Core.List.{[]}
+use denote.Ref.{now}
+use lib.Dec.{eqb, ltb}
+use borrow.Author.Tests.{eqb-true, ltb-true, ltb-false}
+use Rattle.trade.specs.Limits.{mostFlows, mostSteps}
+use Rattle.trade.specs.First.{sumTo}
+use Rattle.trade.specs.Interference.{one}
+use Rattle.trade.proofs.First.{not-both, and-true, or-false}
+use Rattle.sections.specs.Steps.{off}
+use Rattle.sections.proofs.AtOnceLaws.{none-bad}
+use borrow.Author.Needs.{needs}
+use Rattle.sections.proofs.at_once.counts_agree.Statement.{statement}
+use Rattle.sections.proofs.at_once.counts_agree.Tie as tie
+
+count-anew-requires : tie.Need-count-anew-requires
+count-anew-requires c κs = search needs
+
+mul-if1 : tie.Need-mul-if1
+mul-if1 c = search needs
+
+-- what is counted lies within the limits
+within :
+    (c : tie.Else1)
+    → (1 ≤ c .before .count-anew .result .all) × (c .before .count-anew .result .all ≤ mostFlows * mostSteps)
+within c =
+    let all = c .before .count-anew .result .all in
+    let p = or-false (ltb all 1) (ltb (mostFlows * mostSteps) all) (c .if1 .left) in
+    (ltb-false all 1 (p .0), ltb-false (mostFlows * mostSteps) all (p .1))
+
+returns : tie.Need-returns
+returns c = λ e. absurd (not-both e refl)
+
+mul-highest : tie.Need-mul-highest
+mul-highest c = search needs
+
+highest-requires : tie.Need-highest-requires
+highest-requires c κs = search needs
+
+cast-inside : tie.Need-cast-inside
+cast-inside c = search needs
+
+count-off-requires : tie.Need-count-off-requires
+count-off-requires c κs = (
+  within (c .before) .0,
+  within (c .before) .1,
+  rw (c .before .before .count-anew .ensures .0) (c .before .before .before .before .before .pre .1),
+)
+
+returns-2 : tie.Need-returns-2
+returns-2 c =
+    λ e.
+    let a = c .before .before .before .before .before .before .before .args in
+    let begun = c .before .before .before .before .count-anew in
+    let most = c .before .before .highest in
+    let off-count = c .before .count-off in
+    let p = and-true (ltb (most .result) (a .nodes)) (eqb (off-count .result) (begun .result .anew)) e in
+    none-bad (a .nodes) (a .flows) [] (now (a .records)) (now (a .steps)) (most .result)
+    (λ k h. most .ensures k (rw (begun .ensures .0) h))
+    (ltb-true (most .result) (a .nodes) (p .0))
+    (ap (sumTo (λ k. one (off (now (a .steps)) k))) (sym (begun .ensures .0))
+    ∙ sym (off-count .ensures)
+    ∙ eqb-true (off-count .result) (begun .result .anew) (p .1)
+    ∙ begun .ensures .1)
+
+pub counts-agree-spec : {M : Type 1} → statement M
+counts-agree-spec =
+    tie.close
+    (tie.spec
+    count-anew-requires
+    mul-if1
+    returns
+    mul-highest
+    highest-requires
+    cast-inside
+    count-off-requires
+    returns-2)

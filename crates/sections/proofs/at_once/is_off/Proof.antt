@@ -1,0 +1,33 @@
+-- `book::at_once::is_off` meets its contract: two steps are the same if their numbers are. Assumes nothing.
+use mathlib.Core.Path.{refl}
+use Rattle.trade.specs.Codes.{repeats, goesOn}
+use Rattle.sections.specs.Steps.{unjoined, own, off}
+use Rattle.sections.proofs.AtOnceLaws.{both-equal}
+use borrow.Author.Needs.{needs}
+use Rattle.sections.proofs.at_once.is_off.Statement.{statement}
+use Rattle.sections.proofs.at_once.is_off.Tie as tie
+
+both-at-requires : tie.Need-both-at-requires
+both-at-requires c κs = search needs
+
+sub-both-at : tie.Need-sub-both-at
+sub-both-at c = search needs
+
+both-at-requires-2 : tie.Need-both-at-requires-2
+both-at-requires-2 c κs = search needs
+
+returns : tie.Need-returns
+unfolding off own unjoined repeats goesOn
+returns c =
+    let step = c .before .both-at .ensures in
+    let before = c .both-at2 .ensures in
+    rw (
+      both-equal (c .before .both-at .result) (c .both-at2 .result),
+      step .0,
+      step .1,
+      before .0,
+      before .1,
+    ) refl
+
+pub is-off-spec : {M : Type 1} → statement M
+is-off-spec = tie.close (tie.spec both-at-requires sub-both-at both-at-requires-2 returns)

@@ -1,0 +1,26 @@
+-- `run::release::instance_at` divides the slots since the first release by the period; there are none before it. Assumes nothing.
+use Prim.Native.Nat.{_-_}
+use mathlib.Core.Path.{_≡_, refl, sym}
+use native.Mathlib.Nat.{zero-div}
+use native.Mathlib.Omega.{arith}
+use Rattle.slot.specs.Turns.{instanceBy}
+use borrow.Author.Needs.{needs}
+use Rattle.slot.proofs.release.instance_at.Statement.{statement}
+use Rattle.slot.proofs.release.instance_at.Tie as tie
+
+returns : tie.Need-returns
+unfolding instanceBy
+returns c =
+    let a = c .before .before .before .args in
+    let none : a .slot .0 - a .first .0 ≡ 0 = omega arith in
+    rw none (sym (zero-div (a .period)))
+
+div-t7 : tie.Need-div-t7
+div-t7 c = search needs
+
+returns-2 : tie.Need-returns-2
+unfolding instanceBy
+returns-2 c = refl
+
+pub instance-at-spec : {M : Type 1} → statement M
+instance-at-spec = tie.close (tie.spec returns div-t7 returns-2)

@@ -1,0 +1,15 @@
+-- `book::table::Table::empty` meets its contract: its places are the zeros that pad an empty table. Assumes nothing.
+use mathlib.Core.Path.{refl}
+use Rattle.trade.specs.First.{sumTo}
+use Rattle.trade.specs.Bytes.{padded}
+use Rattle.trade.specs.Facts.{factsOf, firstStep, allSteps}
+use Rattle.trade.specs.Table.{used, tableOf, emptyTable}
+use Rattle.table.proofs.table.Table.empty.Statement.{statement}
+use Rattle.table.proofs.table.Table.empty.Tie as tie
+
+returns : tie.Need-returns
+unfolding emptyTable tableOf used padded allSteps firstStep factsOf sumTo
+returns c = refl
+
+pub empty-spec : {M : Type 1} → statement M
+empty-spec = tie.close (tie.spec returns)

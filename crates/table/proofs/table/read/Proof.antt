@@ -1,0 +1,93 @@
+-- `book::table::read` meets its contract: a refused book has a table of zeros, and the parts of another are copied over zeros.
+-- Assumes nothing.
+use mathlib.Core.Path.{_≡_, _∙_, sym, ap}
+use denote.Ref.{now}
+use native.Mathlib.Omega.{arith}
+use Rattle.trade.specs.Layout.{sections, sectionsOf}
+use Rattle.trade.specs.Bytes.{padded}
+use Rattle.trade.specs.Table.{rowsRoom, recordsRoom, stepsRoom}
+use Rattle.trade.specs.Calls.{readAnswer, readOf}
+use Rattle.book.specs.Frame.{frameOf, Lies, openedOf}
+use Rattle.book.specs.declared.parts.Opened.{Opened}
+use Rattle.book.proofs.OpenBookLaws.{done-lies, open-frame, rows-fit, records-fit, steps-fit}
+use Rattle.table.proofs.ReadLaws.{read-refused, read-done}
+use borrow.Author.Needs.{needs}
+use Rattle.table.proofs.table.read.Statement.{statement}
+use Rattle.table.proofs.table.read.Tie as tie
+
+-- a book that is done, and where its parts lie
+opened : (c : tie.Else1) → (readAnswer (now (c .before .before .before .before .before .args .book)) .code ≡ 0) × (c .before .before .before .open-book .result .frame ≡ frameOf (now (c .before .before .before .before .before .args .book)))
+opened c = open-frame (now (c .before .before .before .before .before .args .book)) (c .before .before .before .open-book .result) (c .before .before .before .open-book .ensures) (c .if1 .left)
+
+laid : (c : tie.Else1) → Lies (now (c .before .before .before .before .before .args .book)) (c .before .before .before .open-book .result .frame)
+laid c = rw (opened c .1) (done-lies (now (c .before .before .before .before .before .args .book)) (opened c .0))
+
+open-book-requires : tie.Need-open-book-requires
+open-book-requires c κs = search needs
+
+empty-requires : tie.Need-empty-requires
+empty-requires c κs = search needs
+
+returns : tie.Need-returns
+unfolding openedOf readOf
+returns c =
+    let book = now (c .before .before .before .before .before .before .args .book) in
+    let e = c .before .before .before .before .open-book .ensures in
+    record {
+      answer = ap (λ (o : Opened). o .answer) e;
+      table = c .empty .ensures ∙ sym (read-refused book (λ z. c .before .if1 .taken (ap (λ (o : Opened). o .answer .code) e ∙ z)));
+    }
+
+cast-table-of : tie.Need-cast-table-of
+cast-table-of c = omega (arith, laid (c .before .before) .nodes)
+
+cast-table-of-2 : tie.Need-cast-table-of-2
+cast-table-of-2 c = omega (arith, laid (c .before .before .before) .flows)
+
+rows-of-requires : tie.Need-rows-of-requires
+rows-of-requires c κs = laid (c .before .before .before)
+
+records-of-requires : tie.Need-records-of-requires
+records-of-requires c κs = laid (c .before .before .before .before)
+
+steps-of-requires : tie.Need-steps-of-requires
+steps-of-requires c κs = laid (c .before .before .before .before .before)
+
+table-of-requires : tie.Need-table-of-requires
+table-of-requires c κs =
+    let book = now (c .before .before .before .before .before .before .before .before .before .before .before .args .book) in
+    let done = opened (c .before .before .before .before .before .before) .0 in (
+      rw (c .before .before .rows-of .ensures) (rows-fit book done),
+      rw (c .before .records-of .ensures) (records-fit book done),
+      rw (c .steps-of .ensures) (steps-fit book done),
+    )
+
+returns-2 : tie.Need-returns-2
+unfolding openedOf readOf frameOf sectionsOf
+returns-2 c =
+    let book = now (c .before .before .before .before .before .before .before .before .before .before .before .before .args .book) in
+    let done = opened (c .before .before .before .before .before .before .before) in
+    record {
+      answer = ap (λ (o : Opened). o .answer) (c .before .before .before .before .before .before .before .before .before .before .open-book .ensures);
+      table =
+          c .table-of .ensures
+          ∙ (λ i.
+          sections (done .1 i .nodes) (done .1 i .flows) (padded rowsRoom (c .before .before .before .rows-of .ensures i))
+          (padded recordsRoom (c .before .before .records-of .ensures i)) (padded stepsRoom (c .before .steps-of .ensures i)))
+          ∙ sym (read-done book (done .0));
+    }
+
+pub read-spec : {M : Type 1} → statement M
+read-spec =
+    tie.close
+    (tie.spec
+    open-book-requires
+    empty-requires
+    returns
+    cast-table-of
+    cast-table-of-2
+    rows-of-requires
+    records-of-requires
+    steps-of-requires
+    table-of-requires
+    returns-2)

@@ -32,10 +32,14 @@ aarch64)
     rust_target="--target x86_64-unknown-linux-gnu -C linker=x86_64-linux-gnu-gcc"
     cc=x86_64-linux-gnu-gcc
     emulator=qemu-x86_64
-    packages="rustc-web libstd-rust-web-dev:amd64 gcc-x86-64-linux-gnu qemu-user"
-    if ! dpkg-query -W $packages >/dev/null 2>&1; then
+    packages="rustc-web libstd-rust-web-dev:amd64 gcc-x86-64-linux-gnu libc6-dev-amd64-cross qemu-user"
+    missing=
+    for package in $packages; do
+        [ "$(dpkg-query -W -f '${db:Status-Status}' "$package" 2>/dev/null)" = installed ] || missing="$missing $package"
+    done
+    if [ -n "$missing" ]; then
         dpkg --add-architecture amd64
-        brings $packages
+        brings $missing
     fi
     wants "$rustc" "rustc-web did not bring it"
     wants "$cc" "gcc-x86-64-linux-gnu did not bring it"

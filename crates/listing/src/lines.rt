@@ -7,6 +7,7 @@ use numbers::numbers::long_at;
 use numbers::numbers::word_at;
 use trade::Answer;
 use trade::Flow;
+use trade::Slot;
 
 // A word, or the end of a line.
 pub fn print(text: &[u8]) {
@@ -53,10 +54,10 @@ pub fn print_bound(flow: Flow, bound: u16) {
 }
 
 // slot id instance step sender receiver, from the bytes of a grant
-pub fn print_grant(slot: u64, grant: &[u8])
+pub fn print_grant(slot: Slot, grant: &[u8])
     requires { ⌜ grantBytes ≤ length (now grant) ⌝ }
 {
-    io::print_decimal(STDOUT_FILENO, slot);
+    io::print_decimal(STDOUT_FILENO, slot.0 as u64);
     print_word(word_at(grant, 0));
     print_next(long_at(grant, 2) as u64);
     print_byte(grant[6]);

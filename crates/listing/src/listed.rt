@@ -15,9 +15,10 @@ use sections::records::record_at;
 use trade::Flow;
 use trade::Grant;
 use trade::Run;
+use trade::Slot;
 
 // So many slots are listed.
-const SLOTS: u64 = 12;
+const SLOTS: u32 = 12;
 
 // The bound of each flow, in record order.
 fn list_bounds(flows: usize, records: &[u8], bounds: &[u16; Flow::MOST])
@@ -31,7 +32,7 @@ fn list_bounds(flows: usize, records: &[u8], bounds: &[u16; Flow::MOST])
 }
 
 // The grants of a slot, of which there is at most one for each flow place.
-fn list_grants(slot: u64, count: u64, grants: &[u8])
+fn list_grants(slot: Slot, count: u64, grants: &[u8])
     requires { ⌜ grantBytes * mostFlows ≤ length (now grants) ⌝ }
 {
     let mut i = 0;
@@ -50,15 +51,15 @@ fn list_run(book: &[u8]) {
     let mut area = [0u8; Run::AREA_BYTES];
     let mut grants = [0u8; Flow::MOST * Grant::BYTES];
     start(book, &mut area);
-    let mut slot = 0;
-    while slot < SLOTS {
+    let mut slot = Slot(0);
+    while slot.0 < SLOTS {
         let answer = advance(book, &mut area, &mut grants);
         if answer.code != 0 {
             print_refusal(answer);
             return;
         }
         list_grants(slot, answer.number, &grants);
-        slot += 1;
+        slot = Slot(slot.0 + 1);
     }
 }
 

@@ -8,10 +8,10 @@ use Rattle.listing.proofs.listed.list_run.Statement.{statement}
 use Rattle.listing.proofs.listed.list_run.Tie as tie
 
 abbrev Inv-loop : tie.InvT-loop
-Inv-loop book area₀ grants₀ slot₀ area grants slot = (length area ≡ areaBytes) × (length grants ≡ grantBytes * mostFlows) × (slot ≤ 12)
+Inv-loop book area₀ grants₀ slot₀ area grants slot = (length area ≡ areaBytes) × (length grants ≡ grantBytes * mostFlows) × (slot .0 ≤ 12)
 
 abbrev μ-loop : tie.MeasureT-loop
-μ-loop book area₀ grants₀ slot₀ area grants slot = 12 - slot
+μ-loop book area₀ grants₀ slot₀ area grants slot = 12 - slot .0
 
 slice-aggregate-start : tie.Need-slice-aggregate-start Inv-loop μ-loop
 slice-aggregate-start c = search needs
@@ -43,8 +43,8 @@ slice-aggregate-list-grants c = search needs
 list-grants-requires : tie.Need-list-grants-requires Inv-loop μ-loop
 list-grants-requires c κs = search needs
 
-add-slot : tie.Need-add-slot Inv-loop μ-loop
-add-slot c = search needs
+add-t18 : tie.Need-add-t18 Inv-loop μ-loop
+add-t18 c = search needs
 
 loop-less : tie.Need-loop-less Inv-loop μ-loop
 loop-less c = search needs
@@ -71,7 +71,7 @@ list-run-spec =
     returns
     slice-aggregate-list-grants
     list-grants-requires
-    add-slot
+    add-t18
     loop-less
     loop-again
     returns-2)

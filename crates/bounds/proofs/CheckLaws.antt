@@ -8,20 +8,20 @@ use borrow.Author.Tests.{eq-eqb, ne-eqb}
 use Rattle.trade.specs.Layout.{sectionsOf}
 use Rattle.trade.specs.Facts.{factsIn, factsOf, said}
 use Rattle.trade.specs.Answers.{isDone, givenFirst, firstOf, on, noNumber}
-use Rattle.trade.specs.Codes.{code9}
-use Rattle.trade.specs.Calls.{bookRules, readAnswer, checkRules, checkAnswer, checkOf}
+use Rattle.trade.specs.Bound.{code9, code9By}
+use Rattle.trade.specs.Calls.{bookRules, readAnswer, checkAnswer, checkBy, checkAnswerBy, checkRulesBy}
 use Rattle.trade.specs.declared.answer.Answer.{Answer}
 use Rattle.trade.proofs.Answers.{firstOf-on, firstOf-last, given-passes}
 use Rattle.bounds.specs.Bounds.{refusedBy, boundedBy, ChecksAs}
-use Rattle.bounds.proofs.Alike.{alike-counts, bounded-alike}
-use Rattle.book.proofs.OpenBookLaws.{book-formed}
+use Rattle.trade.proofs.Alike.{alike-counts}
+use Rattle.bounds.proofs.BoundsLaws.{bounded-alike}
 
 nine : (b : List ℕ) → firstOf ((λ c. code9 (said c)) ∷ []) noNumber b ≡ code9 (said b)
-unfolding code9 givenFirst
+unfolding code9By givenFirst
 nine b = firstOf-last (λ c. code9 (said c)) b (given-passes 8 _ _)
 
 pub check-answer : (b : List ℕ) → checkAnswer b ≡ cond (isDone (readAnswer b)) (code9 (said b)) (readAnswer b)
-unfolding checkAnswer checkRules readAnswer bookRules on
+unfolding checkAnswerBy checkRulesBy readAnswer bookRules on
 check-answer b =
     firstOf-on (λ c. c) bookRules ((λ c. code9 (said c)) ∷ []) noNumber b
     ∙ ap (λ (a : Answer). cond (isDone (readAnswer b)) a (readAnswer b)) (nine b)
@@ -36,7 +36,7 @@ check-passed b e = check-answer b ∙ rw (eq-eqb (readAnswer b .code) 0 e)
 
 -- so what check owes is a refusal of reading, or what the bounds come to
 pub checks-refused : (b : List ℕ) → (readAnswer b .code ≡ 0 → ⊥) → ChecksAs b (refusedBy (readAnswer b))
-unfolding checkOf isDone
+unfolding checkBy isDone
 checks-refused b n =
     record {
       answer = sym (check-refused b n);
@@ -44,7 +44,7 @@ checks-refused b n =
     }
 
 pub checks-bounded : (b : List ℕ) → readAnswer b .code ≡ 0 → ChecksAs b (boundedBy (said b))
-unfolding checkOf boundedBy
+unfolding checkBy boundedBy
 checks-bounded b e =
     record {
       answer = sym (check-passed b e);
@@ -60,4 +60,3 @@ unfolding said factsOf
 said-bounded b e =
     bounded-alike (factsIn 0 (sectionsOf b .flows) (sectionsOf b .rows) (sectionsOf b .records) (sectionsOf b .steps)) (factsOf (sectionsOf b)) refl
     (alike-counts (sectionsOf b .flows) 0 (sectionsOf b .flows) (sectionsOf b .nodes) (sectionsOf b .flows) (sectionsOf b .rows) (sectionsOf b .records) (sectionsOf b .steps))
-    (book-formed b e .most)

@@ -1,7 +1,6 @@
 -- Laws that the proofs of this crate's functions, and those above it, cite.
 pub mod InstancesLaws
 pub mod SmallestLaws
-pub mod Alike
 pub mod BoundsLaws
 pub mod CheckLaws
 pub mod Monotone

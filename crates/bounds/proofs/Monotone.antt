@@ -1,5 +1,5 @@
 -- A bound falls, or stays, where a term of its sum does: where a flow above has a longer period, a shorter carry-in or a smaller
--- figure. Leans on Iteration. Assumes nothing.
+-- cost, by any measure. Leans on SmallestLaws. Assumes nothing.
 use Prim.Native.Nat.{ℕ, suc, _*_, _≤_, _<_}
 use mathlib.Core.Path.{_≡_, refl}
 use mathlib.Core.Bool.{Bool, true, _&&_}
@@ -10,8 +10,7 @@ use lib.Dec.{leb}
 use borrow.Author.Tests.{leb-true, le-leb}
 use Rattle.trade.specs.First.{first}
 use Rattle.trade.specs.Facts.{Facts}
-use Rattle.trade.specs.Interference.{interference}
-use Rattle.trade.specs.Bound.{instances, slotsNeeded, boundBy}
+use Rattle.trade.specs.Bound.{Measure, instances, slotsNeeded, boundBy}
 use Rattle.trade.proofs.First.{not-both, and-true, lt-or-ge, first-within, first-before, first-holds}
 use Rattle.trade.proofs.Sums.{sum-mono}
 use Rattle.bounds.specs.Terms.{smallestIn}
@@ -49,43 +48,43 @@ smallest-mono needed other len own deadline l less =
       le-leb (needed R) R (omega (arith, leb-true (other R) R (p .1), less R)),
     ))
 
--- flow l has no more above it, or of its own, by one set of facts and carry-in than by another
-pub record Lighter (f g : Facts) (carry other : ℕ → ℕ) (l : ℕ) : Type 0 where
+-- flow l has no more above it, or of its own, by one set of facts and measure than by another
+pub record Lighter (f g : Facts) (μ ν : Measure) (l : ℕ) : Type 0 where
   pub deadline : f .deadline l ≡ g .deadline l
   pub len : f .len l ≤ g .len l
   pub period : (h : ℕ) → h < l → (1 ≤ g .period h) × (g .period h ≤ f .period h)
-  pub carries : (h : ℕ) → h < l → carry h ≤ other h
-  pub figure : (h : ℕ) → h < l → interference f l h ≤ interference g l h
+  pub carries : (h : ℕ) → h < l → μ .carry h ≤ ν .carry h
+  pub costs : (h : ℕ) → h < l → μ .cost l h ≤ ν .cost l h
 
-module _ (f g : Facts) (carry other : ℕ → ℕ) (l : ℕ) (a : Lighter f g carry other l) where
-  pub needed-mono : (R : ℕ) → slotsNeeded f carry l R ≤ slotsNeeded g other l R
+module _ (f g : Facts) (μ ν : Measure) (l : ℕ) (a : Lighter f g μ ν l) where
+  pub needed-mono : (R : ℕ) → slotsNeeded f μ l R ≤ slotsNeeded g ν l R
   unfolding slotsNeeded
   needed-mono R =
       add-le-add (a .len)
-      (sum-mono (λ (h : ℕ). instances R (carry h) (f .period h) * interference f l h)
-      (λ (h : ℕ). instances R (other h) (g .period h) * interference g l h) l
+      (sum-mono (λ (h : ℕ). instances R (μ .carry h) (f .period h) * μ .cost l h)
+      (λ (h : ℕ). instances R (ν .carry h) (g .period h) * ν .cost l h) l
       (λ h b.
       mul-le-mul
-      (instances-mono R R (carry h) (other h) (f .period h) (g .period h) (a .period h b .0) (a .period h b .1) (omega arith) (a .carries h b))
-      (a .figure h b)))
+      (instances-mono R R (μ .carry h) (ν .carry h) (f .period h) (g .period h) (a .period h b .0) (a .period h b .1) (omega arith) (a .carries h b))
+      (a .costs h b)))
 
-  pub bound-mono : boundBy f carry l ≤ boundBy g other l
+  pub bound-mono : boundBy f μ l ≤ boundBy g ν l
   bound-mono =
-      rw (bound-is-smallest f carry l, bound-is-smallest g other l, a .deadline)
-      (smallest-mono (slotsNeeded f carry l) (slotsNeeded g other l) (f .len l) (g .len l) (g .deadline l) (a .len) needed-mono)
+      rw (bound-is-smallest f μ l, bound-is-smallest g ν l, a .deadline)
+      (smallest-mono (slotsNeeded f μ l) (slotsNeeded g ν l) (f .len l) (g .len l) (g .deadline l) (a .len) needed-mono)
 
--- by the same facts, a shorter carry-in
+-- by the same facts and costs, a shorter carry-in
 pub carry-mono :
-    (f : Facts) (carry other : ℕ → ℕ) (l : ℕ)
+    (f : Facts) (cost : ℕ → ℕ → ℕ) (carry other : ℕ → ℕ) (l : ℕ)
     → ((h : ℕ) → h < l → 1 ≤ f .period h)
     → ((h : ℕ) → h < l → carry h ≤ other h)
-    → boundBy f carry l ≤ boundBy f other l
-carry-mono f carry other l period carries =
-    bound-mono f f carry other l
+    → boundBy f (record { cost = cost; carry = carry }) l ≤ boundBy f (record { cost = cost; carry = other }) l
+carry-mono f cost carry other l period carries =
+    bound-mono f f (record { cost = cost; carry = carry }) (record { cost = cost; carry = other }) l
     (record {
       deadline = refl;
       len = omega arith;
       period = λ h b. (period h b, omega arith);
       carries = carries;
-      figure = λ h b. omega arith;
+      costs = λ h b. omega arith;
     })

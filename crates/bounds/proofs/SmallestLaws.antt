@@ -1,5 +1,5 @@
 -- The search for the smallest R that is at least what is needed within it, from below. What is needed grows with R, so an R that needs
--- more rules out every one up to what it needs. Leans on Ceil, and on the trade's First and Sums. Assumes nothing.
+-- more rules out every one up to what it needs. Leans on InstancesLaws, and on the trade's First and Sums. Assumes nothing.
 use Prim.Native.Nat.{ℕ, suc, _+_, _*_, _≤_, _<_}
 use mathlib.Core.Path.{_≡_, refl, _∙_, ap}
 use mathlib.Core.Bool.{Bool, false, _&&_, and-false}
@@ -11,8 +11,7 @@ use lib.Dec.{leb}
 use lib.ListN.{getD}
 use borrow.Author.Tests.{le-leb, lt-leb}
 use Rattle.trade.specs.Facts.{Facts}
-use Rattle.trade.specs.Interference.{interference}
-use Rattle.trade.specs.Bound.{instances, slotsNeeded, admissible, boundBy}
+use Rattle.trade.specs.Bound.{instances, Measure, slotsNeeded, admissible, boundBy}
 use Rattle.trade.proofs.First.{lt-or-ge, first-unique, first-none, first-cong}
 use Rattle.trade.proofs.Sums.{sum-mono, sum-cong}
 use Rattle.bounds.specs.Terms.{Terms, neededIn, smallestIn}
@@ -76,23 +75,23 @@ needed-grows len k figures periods carries t r s h =
 
 -- a bound is the smallest R that is at least the slots needed within it
 pub bound-is-smallest :
-    (f : Facts) (carry : ℕ → ℕ) (l : ℕ) → boundBy f carry l ≡ smallestIn (slotsNeeded f carry l) (f .len l) (f .deadline l)
+    (f : Facts) (μ : Measure) (l : ℕ) → boundBy f μ l ≡ smallestIn (slotsNeeded f μ l) (f .len l) (f .deadline l)
 unfolding boundBy admissible smallestIn
-bound-is-smallest f carry l = refl
+bound-is-smallest f μ l = refl
 
--- lists that say what the facts do give the bound of the facts
+-- lists that say what the facts and the measure do give the bound
 pub bound-in :
-    (f : Facts) (carry : ℕ → ℕ) (l : ℕ) (figures periods carries : List ℕ)
-    → ((h : ℕ) → h < l → getD figures h 0 ≡ interference f l h)
+    (f : Facts) (μ : Measure) (l : ℕ) (figures periods carries : List ℕ)
+    → ((h : ℕ) → h < l → getD figures h 0 ≡ μ .cost l h)
     → ((h : ℕ) → h < l → getD periods h 0 ≡ f .period h)
-    → ((h : ℕ) → h < l → getD carries h 0 ≡ carry h)
-    → smallestIn (neededIn (f .len l) l figures periods carries) (f .len l) (f .deadline l) ≡ boundBy f carry l
+    → ((h : ℕ) → h < l → getD carries h 0 ≡ μ .carry h)
+    → smallestIn (neededIn (f .len l) l figures periods carries) (f .len l) (f .deadline l) ≡ boundBy f μ l
 unfolding slotsNeeded neededIn
-bound-in f carry l figures periods carries i p c =
-    rw (bound-is-smallest f carry l)
-    (smallest-same (neededIn (f .len l) l figures periods carries) (slotsNeeded f carry l) (f .len l) (f .deadline l)
+bound-in f μ l figures periods carries i p c =
+    rw (bound-is-smallest f μ l)
+    (smallest-same (neededIn (f .len l) l figures periods carries) (slotsNeeded f μ l) (f .len l) (f .deadline l)
     (λ R.
     ap (λ (n : ℕ). f .len l + n)
     (sum-cong (λ (h : ℕ). instances R (getD carries h 0) (getD periods h 0) * getD figures h 0)
-    (λ (h : ℕ). instances R (carry h) (f .period h) * interference f l h) l
+    (λ (h : ℕ). instances R (μ .carry h) (f .period h) * μ .cost l h) l
     (λ h b. rw (i h b, p h b, c h b)))))

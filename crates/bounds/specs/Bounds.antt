@@ -7,7 +7,7 @@ use lib.ListN.{replicate}
 use Rattle.trade.specs.Limits.{mostFlows}
 use Rattle.trade.specs.Facts.{Facts}
 use Rattle.trade.specs.Answers.{isDone}
-use Rattle.trade.specs.Codes.{code9}
+use Rattle.trade.specs.Bound.{code9}
 use Rattle.trade.specs.Calls.{boundsOf, checkOf}
 use Rattle.trade.specs.declared.answer.Answer.{Answer}
 use Rattle.bounds.specs.declared.bounds.Checked.{Checked}

@@ -5,7 +5,7 @@ ghost use lib.ListN.{length, getD};
 ghost use Rattle.trade.specs.Limits.{mostFlows, mostPeriod};
 ghost use Rattle.trade.specs.Layout.{field};
 ghost use Rattle.trade.specs.Facts.{factsIn};
-ghost use Rattle.trade.specs.Bound.{boundBy};
+ghost use Rattle.trade.specs.Bound.{byInterference, boundBy};
 ghost use Rattle.pairs.specs.Columns.{Disturbers};
 ghost use Rattle.sections.specs.Formed.{Formed};
 ghost use Rattle.figures.specs.Square.{HasLine};
@@ -48,7 +48,7 @@ fn bound_at(
     requires { ⌜ (0 < length (now square) → HasLine (now rows) (now records) (now steps) l (now square)) ⌝ }
     requires { ⌜ ((h : ℕ) → h < l → getD (now periods) h 0 ≡ field (now records) h 2) ⌝ }
     requires { ⌜ ((h : ℕ) → h < l → getD (now carries) h 0 ≤ mostPeriod) ⌝ }
-    ensures { λ r. ⌜ r ≡ boundBy (factsIn 0 0 (now (rows .entry)) (now (records .entry)) (now (steps .entry))) (λ h. getD (now (carries .entry)) h 0) l ⌝ }
+    ensures { λ r. ⌜ r ≡ boundBy (factsIn 0 0 (now (rows .entry)) (now (records .entry)) (now (steps .entry))) (byInterference (factsIn 0 0 (now (rows .entry)) (now (records .entry)) (now (steps .entry))) (λ h. getD (now (carries .entry)) h 0)) l ⌝ }
 {
     let flow = record_at(records, l);
     let figures = figures_at(rows, records, steps, square, l);

@@ -15,7 +15,8 @@ use Rattle.trade.specs.Layout.{Sections, field}
 use Rattle.trade.specs.Facts.{factsOf, flowIn, disturbsIn, stepIn}
 use Rattle.trade.specs.Table.{used, tableOf, rowsRoom, recordsRoom, stepsRoom, InMemory}
 use Rattle.trade.specs.Answers.{done, refused, isDone, given, firstOf, noNumber}
-use Rattle.trade.specs.Codes.{outside, badRecord, code6, code8, code9, code14, code15Adding, code15Removing}
+use Rattle.trade.specs.Codes.{outside, badRecord, code6, code8, code14, code15Adding, code15Removing}
+use Rattle.trade.specs.Bound.{code9}
 use Rattle.trade.specs.Calls.{Adding, Removing, tableRules, recordOf, withFlow, withoutFlow, addAnswer, addOf, removeAnswer, removeOf}
 use Rattle.trade.specs.declared.answer.Answer.{Answer}
 use Rattle.trade.specs.declared.flow.Flow.{Flow}

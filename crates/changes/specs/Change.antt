@@ -9,7 +9,8 @@ use Rattle.trade.specs.Limits.{mostFlows, mostSteps, stepBytes}
 use Rattle.trade.specs.Layout.{Sections}
 use Rattle.trade.specs.Facts.{factsOf}
 use Rattle.trade.specs.Answers.{done, refused, isDone, firstOf, noNumber}
-use Rattle.trade.specs.Codes.{code6, code8, code9}
+use Rattle.trade.specs.Codes.{code6, code8}
+use Rattle.trade.specs.Bound.{code9}
 use Rattle.trade.specs.Calls.{Adding, Removing, tableRules, addOf, removeOf}
 use Rattle.trade.specs.Table.{InMemory}
 use Rattle.trade.specs.declared.answer.Answer.{Answer}

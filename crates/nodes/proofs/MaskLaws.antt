@@ -114,9 +114,12 @@ bit-past n k y h l =
     let d : k + (y - k) ≡ y = omega arith in
     ap₂ bit e (sym d) ∙ bit-above 0 n k (y - k) h ∙ bit-none (y - k)
 
--- one bit of 64, shifted to its place
+-- one bit of so many, shifted to its place; of 64
+pub one-bit-of : (bits p : ℕ) → p < bits → 1 * 2 ^ p % 2 ^ bits ≡ only p
+one-bit-of bits p l = rw one-mul (mod-eq-of-lt (pow-lt {j = bits} l))
+
 pub one-bit : (p : ℕ) → p < 64 → 1 * 2 ^ p % 2 ^ 64 ≡ only p
-one-bit p l = rw one-mul (mod-eq-of-lt (pow-lt {j = 64} l))
+one-bit p l = one-bit-of 64 p l
 
 -- bit y of a run of bytes is bit y mod 8 of byte y div 8
 pub bit-lowFirst :

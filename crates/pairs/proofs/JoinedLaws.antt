@@ -18,7 +18,7 @@ use Rattle.trade.proofs.First.{lt-or-ge}
 use Rattle.trade.proofs.Interference.{worst-past, worst-row}
 use Rattle.pairs.specs.Columns.{Marked, Joined}
 use Rattle.nodes.proofs.MaskLaws.{bit-and, bit-xor}
-use Rattle.pairs.proofs.OnesLaws.{ones-below, ones-past, ones-next, ones-all, without-last, ones-without, ones-with, Lowest, trailing-lowest, trailing-above}
+use Rattle.nodes.proofs.OnesLaws.{ones-below, ones-past, ones-next, ones-all, without-last, ones-without, ones-with, Lowest, trailing-lowest, trailing-above}
 
 -- a set less a bit, and its common part with the set, by what stands above and below the bit
 less : (p h t s w : ℕ) → p < 64 → t < 2 ^ p → w ≡ h * 2 ^ p + t → w < 2 ^ 64 → s < 2 ^ 64 → (s + 2 ^ p) % 2 ^ 64 ≡ w → bitAnd w s ≡ bitAnd h (h - 1) * 2 ^ p + t

@@ -1,7 +1,6 @@
 -- Laws that the proofs of this crate's functions, and those above it, cite.
 pub mod PathLaws
 pub mod InterferenceLaws
-pub mod OnesLaws
 pub mod JoinedLaws
 pub mod SpreadLaws
 pub mod GatherLaws

@@ -13,27 +13,26 @@ use Rattle.trade.specs.Layout.{trailer, flowCount, recordsDistance, sectionsOf,
 use Rattle.trade.specs.Facts.{factsOf, said}
 use Rattle.trade.specs.Answers.{isDone, noNumber}
 use Rattle.trade.specs.declared.answer.Answer.{Answer}
-use Rattle.trade.specs.Bound.{bound}
-use Rattle.trade.specs.Calls.{Checked, Advancing, Advanced, readAnswer, checkOf, flowsGranted, advanceAnswer, advanceOf}
+use Rattle.trade.specs.Bound.{measure, bound}
+use Rattle.trade.specs.Slot.{releasesOf, greedy}
+use Rattle.trade.specs.Calls.{Checked, Advancing, Advanced, readAnswer, flowsGranted, advanceAnswer, advanceOf, checkBy, advanceBy}
 use Rattle.trade.specs.Demands.{Program, Lent, Ready, Done, planner, reported, areaBefore, inSlot, releaseOf, Kept, Demand2, Demand3}
 use Rattle.trade.specs.Cases.{bookA, bookB, lent, grantRoom, areaAfter, slotOf}
 use Rattle.trade.proofs.Bytes.{long-fourBytes}
 use Rattle.trade.proofs.Bound.{bound-smallest}
 use Rattle.trade.proofs.Calls.{advance-done}
 use Rattle.trade.proofs.Cases.{cases-hold}
-use Rattle.trade.proofs.Valid.{check-bounds}
 use Rattle.trade.proofs.Answers.{passed-done}
 use Rattle.promise.specs.Empty.{withCheck, withAdvance, refusesAll, sameBounds, sameGrants, clockMoved, grantsNothing, onlySlotZero, inventsCount, TurnedAway}
+use Rattle.promise.proofs.Sound.{greedy-sound}
 use Rattle.promise.proofs.Slots.{slot-before}
-use Rattle.promise.proofs.Accepted.{check-passed, book-passed, reported-bound}
+use Rattle.promise.proofs.Accepted.{book-passed, accepted-admissible, reported-bound}
 
 -- what check says of the two books
 accepts-A : Done (planner .check bookA .answer)
-unfolding planner
 accepts-A = ap (λ (c : Checked). c .answer .code) (cases-hold .case3)
 
 accepts-B : Done (planner .check bookB .answer)
-unfolding planner
 accepts-B = ap (λ (c : Checked). c .answer .code) (cases-hold .case6)
 
 flows-A : said bookA .flows ≡ 2
@@ -54,50 +53,47 @@ reports-bound :
     → (l : ℕ)
     → l < said b .flows
     → reported p b l ≡ bound (said b) l
-unfolding bound
 reports-bound p d b accepted accepts l h =
-    le-antisymm (d .smallest b accepts l h (bound (said b) l) (check-bounds b (check-passed b accepted) l h))
-    (bound-smallest (said b) (said b .deadline) l (reported p b l) (d .bounded b accepts l h))
+    le-antisymm (d .decides .smallest b accepts l h (bound (said b) l) (accepted-admissible measure b accepted l h))
+    (bound-smallest (said b) (measure (said b)) l (reported p b l) (d .decides .bounded b accepts l h))
 
 -- and advances as the planner does
 advances-alike : (p : Program) → Demand2 p → (a : Advancing) → Done (advanceAnswer a) → p .advance a ≡ advanceOf a
-unfolding advanceOf isDone
-advances-alike p d a e = d .grants a e ∙ rw (advance-done a e)
+unfolding advanceBy isDone
+advances-alike p d a e = d .grants a e ∙ rw (advance-done greedy releasesOf a e)
 
 bound-A : bound (said bookA) 0 ≡ 3
-unfolding planner
 bound-A =
-    sym (reported-bound bookA accepts-A 0 (omega (arith, flows-A))) ∙ ap (λ (c : Checked). getD (c .bounds) 0 0) (cases-hold .case3)
+    sym (reported-bound measure bookA accepts-A 0 (omega (arith, flows-A))) ∙ ap (λ (c : Checked). getD (c .bounds) 0 0) (cases-hold .case3)
 
 bound-B : bound (said bookB) 0 ≡ 5
-unfolding planner
 bound-B =
-    sym (reported-bound bookB accepts-B 0 (omega (arith, flows-B))) ∙ ap (λ (c : Checked). getD (c .bounds) 0 0) (cases-hold .case6)
+    sym (reported-bound measure bookB accepts-B 0 (omega (arith, flows-B))) ∙ ap (λ (c : Checked). getD (c .bounds) 0 0) (cases-hold .case6)
 
 -- slots 2 and 3 of book A, which each have one grant
 slot-A : ℕ → Advancing
 slot-A k = record { book = bookA; area = areaAfter bookA k; grants = grantRoom bookA }
 
 done-2 : Done (advanceAnswer (slot-A 2))
-unfolding slot-A slotOf advanceOf
+unfolding slot-A slotOf advanceBy
 done-2 = ap (λ (a : Advanced). a .answer .code) (cases-hold .case5-slot2)
 
 done-3 : Done (advanceAnswer (slot-A 3))
-unfolding slot-A slotOf advanceOf
+unfolding slot-A slotOf advanceBy
 done-3 = ap (λ (a : Advanced). a .answer .code) (cases-hold .case5-slot3)
 
 -- REFUSING ALL TABLES: the flows of book A have response bounds
 refusing-all : (code number : ℕ) → Demand2 (refusesAll code number) → ⊥
 unfolding refusesAll withCheck readAnswer
 refusing-all code number d =
-    let reads : Done (readAnswer bookA) = ap (λ (a : Answer). a .code) (passed-done noNumber (book-passed bookA accepts-A)) in
+    let reads : Done (readAnswer bookA) = ap (λ (a : Answer). a .code) (passed-done noNumber (book-passed measure bookA accepts-A)) in
     let accepts : suc code ≡ 0
-    = d .accepts bookA reads .1 (λ l h. (bound (said bookA) l, check-bounds bookA (check-passed bookA accepts-A) l h)) in
+    = d .decides .accepts bookA reads .1 (λ l h. (bound (said bookA) l, accepted-admissible measure bookA accepts-A l h)) in
     omega arith
 
 -- ONE CONSTANT BOUND LIST: the smallest bounds of books A and B differ
 same-bounds : (bounds : List ℕ) → Demand2 (sameBounds bounds) → ⊥
-unfolding sameBounds withCheck planner checkOf
+unfolding sameBounds withCheck checkBy
 same-bounds bounds d =
     let a : getD bounds 0 0 ≡ bound (said bookA) 0
     = reports-bound (sameBounds bounds) d bookA accepts-A accepts-A 0 (omega (arith, flows-A)) in
@@ -164,7 +160,7 @@ module _ (advance : Advancing → Advanced) where
 
   -- demand 3 has it keep the first instance of that flow within slots 0 to 2
   kept-A : Demand3 (withAdvance advance) → Kept (withAdvance advance) run-A 0 0 3
-  unfolding withAdvance run-A planner
+  unfolding withAdvance run-A
   kept-A d =
       let R : reported (withAdvance advance) bookA 0 ≡ 3 = ap (λ (c : Checked). getD (c .bounds) 0 0) (cases-hold .case3) in
       subst (λ (n : ℕ). Kept (withAdvance advance) run-A 0 0 n) R
@@ -196,12 +192,12 @@ handed t = record { book = bookA; area = areaBefore onlySlotZero run-A t; grants
 
 -- in slot 2 it only moves the clock
 slot-2-idle : inSlot onlySlotZero run-A 2 .answer .number ≡ 0
-unfolding inSlot areaBefore run-A handed onlySlotZero withAdvance planner clockMoved
+unfolding inSlot areaBefore run-A handed onlySlotZero withAdvance clockMoved
 slot-2-idle =
     let ready : Ready planner run-A = ready-A (planner .advance) in
-    let at-0 : long (handed 0 .area) 0 ≡ 0 = slot-before run-A ready 0 (omega arith) in
+    let at-0 : long (handed 0 .area) 0 ≡ 0 = slot-before measure greedy greedy-sound run-A ready 0 (omega arith) in
     let at-1 : long (handed 1 .area) 0 ≡ 1
-    = ap (λ (a : Advanced). long (a .area) 0) (works-first (handed 0) at-0) ∙ slot-before run-A ready 1 (omega arith) in
+    = ap (λ (a : Advanced). long (a .area) 0) (works-first (handed 0) at-0) ∙ slot-before measure greedy greedy-sound run-A ready 1 (omega arith) in
     let at-2 : long (handed 2 .area) 0 ≡ 2
     = ap (λ (a : Advanced). long (a .area) 0) (moves-later (handed 1) 0 at-1) ∙ clock-moves (handed 1) (omega arith) ∙ ap suc at-1 in
     ap (λ (a : Advanced). a .answer .number) (moves-later (handed 2) 1 at-2)

@@ -3,6 +3,7 @@ pub mod Meets
 -- Demand 1
 pub mod Refusals
 -- Demand 2
+pub mod Sound
 pub mod Accepted
 pub mod Exact
 pub mod Tables

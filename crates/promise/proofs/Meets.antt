@@ -4,7 +4,6 @@ use Rattle.trade.specs.Demands.{Program, planner}
 use Rattle.promise.specs.Promise.{Meets}
 
 pub planner-meets : Meets planner
-unfolding planner
 planner-meets =
     record {
       reads = λ b. refl;
@@ -17,7 +16,6 @@ planner-meets =
     }
 
 pub meets-planner : (p : Program) → Meets p → p ≡ planner
-unfolding planner
 meets-planner p m =
     λ i.
     record {

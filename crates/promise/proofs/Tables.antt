@@ -12,21 +12,22 @@ use Rattle.trade.specs.Layout.{Sections}
 use Rattle.trade.specs.Facts.{factsOf}
 use Rattle.trade.specs.Table.{used, bookOf, tableOf}
 use Rattle.trade.specs.Answers.{done, on, noNumber}
-use Rattle.trade.specs.Codes.{badRow, code3, code5, code6, code8, code9, code14, code15Adding}
+use Rattle.trade.specs.Codes.{badRow, code3, code5, code6, code8, code14, code15Adding}
+use Rattle.trade.specs.Bound.{code9}
 use Rattle.trade.specs.Calls.{Written, Adding, tableRules, withFlow, addAnswer, boundsOf, readOf, addOf}
 use Rattle.trade.specs.Demands.{Program, planner, Done}
 use Rattle.trade.specs.declared.answer.Answer.{Answer}
 use Rattle.trade.proofs.Bytes.{take-over}
 use Rattle.trade.proofs.Answers.{Passed, passed-none, passed-more, passed-head, passed-tail, passed-first, passed-others, passed-look, firstOf-passed, given-passed}
 use Rattle.trade.proofs.Valid.{Valid, table-valid, code3-passes}
-use Rattle.trade.proofs.Places.{table-placed, alike-code5, alike-code9, alike-passed}
-use Rattle.trade.proofs.Used.{used-alike, table-alike, Holds, roomy, in-memory-holds, table-in-memory, table-table}
+use Rattle.trade.proofs.Places.{alike-code5, alike-passed, alike-code9}
+use Rattle.trade.proofs.Used.{used-same, table-same, Holds, roomy, in-memory-holds, table-in-memory, table-table}
 use Rattle.trade.proofs.Calls.{written}
 use Rattle.trade.proofs.RoundTrip.{write-then-read, write-then-check}
 use Rattle.promise.specs.Promise.{Meets}
 use Rattle.promise.specs.Tables.{writing, bookIn, OneBook}
 use Rattle.promise.proofs.Meets.{by-meeting}
-use Rattle.promise.proofs.Exact.{done-first}
+use Rattle.promise.proofs.Refusals.{done-first}
 
 -- the rules of adding after those of the old table
 newRules : List (Adding → Answer)
@@ -62,7 +63,7 @@ module _ (a : Adding) (e : Done (addAnswer a)) where
   new-code5 : code5 (factsOf (withFlow a)) .code ≡ 0
   unfolding tableRules code5 badRow factsOf withFlow
   new-code5 =
-      sym (ap (λ (r : Answer). r .code) (alike-code5 (factsOf (a .table)) (factsOf (used (a .table))) (used-alike (a .table))))
+      sym (ap (λ (r : Answer). r .code) (alike-code5 (a .table) (used (a .table)) (used-same (a .table))))
       ∙ passed-head (passed-tail old)
 
   -- so what is put together passes the rules of a table,
@@ -81,7 +82,7 @@ module _ (a : Adding) (e : Done (addAnswer a)) where
   added = done-first (addAnswer a) _ _ e
 
   table-passes : Passed table tableRules
-  table-passes = alike-passed (withFlow a) table (table-alike (withFlow a)) with-passes
+  table-passes = alike-passed (withFlow a) table (table-same (withFlow a)) with-passes
 
   table-holds : Holds table
   table-holds =
@@ -92,8 +93,7 @@ module _ (a : Adding) (e : Done (addAnswer a)) where
   unfolding newRules
   table-bounds =
       sym
-      (ap (λ (r : Answer). r .code)
-      (alike-code9 (factsOf (withFlow a)) (factsOf table) (table-alike (withFlow a)) (table-placed (withFlow a) with-passes)))
+      (ap (λ (r : Answer). r .code) (alike-code9 (withFlow a) table (table-same (withFlow a)) with-passes))
       ∙ passed-head (passed-tail (passed-tail (passed-tail (passed-tail new))))
 
   -- its book is read as it stands
@@ -104,7 +104,6 @@ module _ (a : Adding) (e : Done (addAnswer a)) where
       (table-table (withFlow a) (roomy (withFlow a) (table-valid (withFlow a) with-passes)))
 
   one-book : (buffer : List ℕ) → length (bookOf (addOf a .table)) ≤ length buffer → OneBook planner a buffer
-  unfolding planner
   one-book buffer room =
       record {
         written = ap (λ (w : Written). w .answer .code) wrote;
@@ -130,7 +129,7 @@ pub one-table-one-book :
     → Done (p .add a .answer)
     → length (bookOf (p .add a .table)) ≤ length buffer
     → OneBook p a buffer
-unfolding planner addOf
+unfolding addOf
 one-table-one-book =
     by-meeting
     (λ p.

@@ -14,8 +14,10 @@ pub mod Window
 pub mod Counting
 pub mod Steady
 pub mod Waiting
--- The greedy rule as an instance of it
+-- A run under any rule of waiting as an instance of it, and the greedy rule
 pub mod Run
+pub mod InOrder
 pub mod Due
 pub mod Kept
 pub mod Promise
+pub mod Greedy

@@ -1,84 +1,89 @@
--- What bounds promise of the greedy rule: no release meets an unfinished instance, and each instance is granted its steps within
--- its bound. Assumes nothing.
+-- What bounds promise of a run under a rule of waiting: no release meets an unfinished instance, and each instance is granted its steps
+-- within its bound. Assumes nothing.
 use Prim.Native.Nat.{ℕ, zero, suc, _+_, _-_, _≤_, _<_}
 use mathlib.Core.Path.{_≡_, sym, _∙_}
-use mathlib.Core.Bool.{true}
+use mathlib.Core.Bool.{true, false}
 use native.Mathlib.Omega.{arith}
 use Rattle.trade.specs.Facts.{Facts}
-use Rattle.trade.specs.Interference.{matrix, interference, worst}
-use Rattle.trade.specs.Bound.{Admissible, slotsNeeded}
-use Rattle.trade.specs.Slot.{released, runTo}
+use Rattle.trade.specs.Bound.{Measure, slotsNeeded, Admissible}
+use Rattle.trade.specs.Slot.{Releases, Waits, runBy}
+use Rattle.response.specs.Course.{Course}
+use Rattle.response.specs.Counting.{Apart}
 use Rattle.response.specs.Waiting.{Bounded, InTime, NeverMet}
-use Rattle.response.specs.Promise.{courseOf, releaseAt, Kept}
-use Rattle.response.proofs.Steady.{Quiet, after-counts}
-use Rattle.response.proofs.Worst.{worst-potential}
-use Rattle.response.proofs.Waiting.{bound-positive, period-positive, finished-in-time, never-met}
-use Rattle.response.proofs.Released.{release-comes}
+use Rattle.response.specs.Promise.{courseOf, Covers, InOrder, Kept}
+use Rattle.response.proofs.Cases.{by-test}
+use Rattle.response.proofs.Steady.{after-counts}
+use Rattle.response.proofs.Waiting.{bound-positive, finished-in-time, never-met}
 use Rattle.response.proofs.Kept.{steps-kept}
-use Rattle.response.proofs.Run.{run-quiet, run-done, run-start, run-steady, run-running}
+use Rattle.response.proofs.Run.{run-done, run-start, run-steady, run-running}
 
--- admissible figures within the periods are bounds, with the deadlines as carry-in
+-- admissible figures within the carry-in and the periods are bounds
 pub admissible-bounded :
-    (f : Facts) (R : ℕ → ℕ)
+    (f : Facts) (μ : Measure) (R : ℕ → ℕ)
     → ((l : ℕ) → l < f .flows → 1 ≤ f .len l)
     → ((l : ℕ) → l < f .flows → f .deadline l ≤ f .period l)
-    → ((l : ℕ) → l < f .flows → Admissible f (f .deadline) l (R l))
-    → Bounded (f .flows) (f .len) (f .period) (f .deadline) (interference f) R
+    → ((l : ℕ) → l < f .flows → R l ≤ μ .carry l)
+    → ((l : ℕ) → l < f .flows → Admissible f μ l (R l))
+    → Bounded (f .flows) (f .len) (f .period) μ R
 unfolding slotsNeeded
-admissible-bounded f R plan period admissible =
+admissible-bounded f μ R plan period carried admissible =
     record {
       plan = plan;
-      carried = λ l l<. admissible l l< .deadline;
+      carried = carried;
       ends = λ l l<. omega (arith, admissible l l< .deadline, period l l<);
       enough = λ l l<. admissible l l< .enough;
     }
 
--- what bounds promise
+-- what bounds promise, by a measure that covers the rule of waiting, where releases are a period apart
 module _
+    (waits : Waits)
     (f : Facts)
-    (firsts carry R : ℕ → ℕ)
-    (bounds : Bounded (f .flows) (f .len) (f .period) carry (interference f) R)
+    (releases : ℕ → Releases)
+    (μ : Measure)
+    (covers : Covers waits f μ)
+    (apart : (l : ℕ) → l < f .flows → Apart (λ t. releases t .due l) (f .period l))
+    (R : ℕ → ℕ)
+    (bounds : Bounded (f .flows) (f .len) (f .period) μ R)
   where
-    -- the run meets the theorem about waiting, with the worst counts as potentials
-    run-in-time : InTime (f .flows) (courseOf f firsts) R
-    unfolding courseOf interference
+    -- the run meets the theorem about waiting
+    run-in-time : InTime (f .flows) (courseOf waits f releases) R
+    unfolding courseOf
     run-in-time =
-        finished-in-time (f .flows) (courseOf f firsts) (f .period) (matrix f) (run-running f firsts) carry (interference f) R bounds
-        (λ l h i j. worst (matrix f l h) (f .len l) i j (f .len h - j))
-        (λ l h l< h<. worst-potential (matrix f l h) (f .len l) (f .len h))
+        finished-in-time (f .flows) (courseOf waits f releases) (f .period) (covers .marks) (run-running waits f releases μ covers apart) μ R
+        bounds (covers .potential) (covers .pays)
 
-    run-never-met : NeverMet (f .flows) (courseOf f firsts)
+    run-never-met : NeverMet (f .flows) (courseOf waits f releases)
     unfolding courseOf
     run-never-met =
-        never-met (f .flows) (courseOf f firsts) (f .period) (matrix f) (run-running f firsts) carry (interference f) R bounds run-in-time
+        never-met (f .flows) (courseOf waits f releases) (f .period) (covers .marks) (run-running waits f releases μ covers apart) μ R bounds
+        run-in-time
 
     -- no release meets an unfinished instance
-    pub never-overrun : (t l : ℕ) → l < f .flows → released f firsts t l ≡ true → runTo f firsts t .done l ≡ f .len l
+    pub never-overrun : (t l : ℕ) → l < f .flows → releases t .due l ≡ true → runBy waits f releases t .done l ≡ f .len l
     unfolding courseOf
-    never-overrun zero l l< e = run-start f firsts l
-    never-overrun (suc t) l l< e = run-done f firsts t l ∙ run-never-met l t l< e
+    never-overrun zero l l< e = run-start waits f releases l
+    never-overrun (suc t) l l< e = run-done waits f releases t l ∙ run-never-met l t l< e
 
     -- each instance is finished R slots after its release
-    pub finished : (l v : ℕ) → l < f .flows → runTo f firsts (releaseAt f firsts l v + R l) .done l ≡ f .len l
+    pub finished : (l r : ℕ) → l < f .flows → releases r .due l ≡ true → runBy waits f releases (r + R l) .done l ≡ f .len l
     unfolding courseOf
-    finished l v l< =
-        let r : ℕ = releaseAt f firsts l v in
+    finished l r l< due =
         let e : suc (r + R l - 1) ≡ r + R l = omega (arith, bound-positive bounds l l<) in
-        rw (sym e) (run-done f firsts (r + R l - 1) l ∙ run-in-time l r l< (release-comes f firsts l v) (r + R l - 1) e)
+        rw (sym e) (run-done waits f releases (r + R l - 1) l ∙ run-in-time l r l< due (r + R l - 1) e)
 
     -- and each of its steps is granted within these slots
-    pub kept : (l v : ℕ) → l < f .flows → Kept f firsts l v (R l)
+    pub kept : (l r : ℕ) → l < f .flows → InOrder releases l → releases r .due l ≡ true → Kept waits f releases l r (R l)
     unfolding courseOf
-    kept l v l< =
-        let positive : 1 ≤ f .period l = period-positive bounds l l< in
-        let r : ℕ = releaseAt f firsts l v in
+    kept l r l< order due =
+        let c : Course = courseOf waits f releases l in
         let last : suc (R l - 1) ≡ R l = omega (arith, bound-positive bounds l l<) in
-        let ends : R l ≤ f .period l = bounds .ends l l< in
-        let quiet : Quiet (courseOf f firsts l) r (r + (R l - 1)) = run-quiet f firsts l v (r + (R l - 1)) (omega arith) in
-        steps-kept f firsts l positive v (R l) ends
+        let quiet : (u : ℕ) → r < u → u < r + R l → releases u .due l ≡ false
+        = λ u u> u<.
+        by-test (releases u .due l) (λ e. absurd (omega (arith, apart l l< r u due e u>, bounds .ends l l<))) (λ e. e) in
+        steps-kept waits f releases l order r (R l) due quiet
         (omega (
           arith,
-          run-steady f firsts l .anew r (release-comes f firsts l v),
-          run-in-time l r l< (release-comes f firsts l v) (r + (R l - 1)) (omega arith),
-          rw last at (after-counts (courseOf f firsts l) (run-steady f firsts l) r (R l - 1) quiet),
+          run-steady waits f releases l .anew r due,
+          run-in-time l r l< due (r + (R l - 1)) (omega arith),
+          rw last at (after-counts c (run-steady waits f releases l) r (R l - 1) (λ u u> u≤. quiet u u> (omega arith))),
         ))

@@ -1,16 +1,18 @@
--- Laws of `released` and `instanceAt`: instance v is released at the first release + v × P, and nowhere else. Assumes nothing.
-use Prim.Native.Nat.{ℕ, _+_, _-_, _%_, _≤_, _<_}
-use mathlib.Core.Path.{_≡_}
-use mathlib.Core.Bool.{true}
+-- Laws of `released` and `instanceAt`: instance v is released at the first release + v × P, and nowhere else; so the periodic releases
+-- are a period apart and come in order. Assumes nothing.
+use Prim.Native.Nat.{ℕ, suc, _+_, _-_, _%_, _≤_, _<_}
+use mathlib.Core.Path.{_≡_, sym}
+use mathlib.Core.Bool.{true, false, _||_}
 use native.Mathlib.Omega.{arith}
 use native.Mathlib.Nat.{div-add-mod', mod-lt, mul-mod-left, div-eq-of-lt-le, add-sub-cancel-left, suc-mul, lt-of-mul-lt-mul-right, mul-le-mul-right, add-mul, one-mul}
-use lib.Dec.{leb, eqb}
-use borrow.Author.Tests.{leb-true, eqb-true, le-leb}
+use lib.Dec.{leb, ltb, eqb}
+use borrow.Author.Tests.{leb-true, ltb-true, eqb-true, le-leb, lt-ltb, le-ltb}
 use Rattle.trade.specs.Facts.{Facts}
-use Rattle.trade.specs.Slot.{released, instanceAt}
-use Rattle.trade.proofs.First.{and-true}
+use Rattle.trade.specs.Slot.{released, instanceAt, periodic}
+use Rattle.trade.proofs.First.{not-both, and-true}
 use Rattle.response.specs.Counting.{Apart}
-use Rattle.response.specs.Promise.{releaseAt}
+use Rattle.response.specs.Promise.{InOrder, releaseAt}
+use Rattle.response.proofs.Cases.{by-test, by-order}
 
 module _ (f : Facts) (firsts : ℕ → ℕ) (l : ℕ) where
   -- no release before the first
@@ -62,3 +64,42 @@ module _ (f : Facts) (firsts : ℕ → ℕ) (l : ℕ) where
     unfolding instanceAt
     instance-within v t low high =
         div-eq-of-lt-le (f .period l) (omega arith) (rw (add-mul, one-mul) (omega arith))
+
+    -- so they come in order
+    periodic-begins : (t : ℕ) → ltb (firsts l) (suc t) ≡ (ltb (firsts l) t || released f firsts t l)
+    periodic-begins t =
+        by-order (firsts l) t
+        (λ early.
+        rw (lt-ltb (firsts l) (suc t) (omega arith))
+        (by-order t (firsts l)
+        (λ now.
+        let is : t ≡ releaseAt f firsts l 0 = omega arith in
+        rw (le-ltb (firsts l) t now, is, release-comes 0))
+        (λ past. rw (lt-ltb (firsts l) t past))))
+        (λ late.
+        rw (le-ltb (firsts l) (suc t) (omega arith), le-ltb (firsts l) t (omega arith))
+        (by-test (released f firsts t l) (λ e. absurd (omega (arith, released-late t e))) sym))
+
+    periodic-stays : (t : ℕ) → released f firsts (suc t) l ≡ false → instanceAt f firsts (suc t) l ≡ instanceAt f firsts t l
+    unfolding instanceAt
+    periodic-stays t quiet =
+        by-order (firsts l) t
+        (λ early.
+        let v : ℕ = instanceAt f firsts t l in
+        by-order (releaseAt f firsts l (suc v)) (suc t)
+        (λ next.
+        let is : suc t ≡ releaseAt f firsts l (suc v) = omega (arith, instance-latest t, suc-mul v (f .period l)) in
+        absurd (not-both (rw is (release-comes (suc v))) quiet))
+        (λ soon. instance-within v (suc t) (omega (arith, instance-released t early)) (omega (arith, suc-mul v (f .period l)))))
+        (λ late. let is : suc t - firsts l ≡ t - firsts l = omega arith in rw is)
+
+    pub periodic-in-order : InOrder (periodic f firsts) l
+    periodic-in-order =
+        record {
+          begins = periodic-begins;
+          stays = periodic-stays;
+          rises =
+              λ t e begun.
+              lt-of-mul-lt-mul-right (f .period l)
+              (omega (arith, released-slot (suc t) e, instance-released t (omega (arith, ltb-true (firsts l) (suc t) begun))));
+        }

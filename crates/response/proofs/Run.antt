@@ -1,95 +1,75 @@
--- The run of the greedy rule is a run in the sense of the theorem about waiting. Assumes nothing.
-use Prim.Native.Nat.{ℕ, zero, suc, _+_, _≤_, _<_}
-use mathlib.Core.Path.{_≡_, refl, ap}
-use mathlib.Core.Bool.{true, cond}
+-- The run under a rule of waiting is a run in the sense of the theorem about waiting, whatever is due in each slot. Assumes nothing.
+use Prim.Native.Nat.{ℕ, zero, suc, _≤_, _<_}
+use mathlib.Core.Path.{_≡_, refl, sym, _∙_, ap}
+use mathlib.Core.Bool.{false}
 use native.Mathlib.Omega.{arith}
 use native.Mathlib.Nat.{le-antisymm, le-of-eq}
 use Rattle.trade.specs.Facts.{Facts}
-use Rattle.trade.specs.Interference.{matrix}
-use Rattle.trade.specs.Slot.{granted, among, atStart, released, doneNow, nextState, runTo}
+use Rattle.trade.specs.Bound.{Measure}
+use Rattle.trade.specs.Slot.{atStart, Releases, doneNow, Waits, nextStateBy, runBy}
+use Rattle.trade.proofs.First.{or-false}
 use Rattle.response.specs.Course.{after}
+use Rattle.response.specs.Counting.{Apart}
 use Rattle.response.specs.Waiting.{Steady, Running}
-use Rattle.response.specs.Promise.{courseOf, releaseAt}
-use Rattle.response.proofs.Steady.{Quiet, Latest, latest, after-within, done-after}
-use Rattle.response.proofs.Released.{released-late, release-comes, released-apart}
-use Rattle.response.proofs.Granted.{granted-unfinished, waits-for}
-use Rattle.response.proofs.Cases.{by-test, by-order}
+use Rattle.response.specs.Promise.{courseOf, Covers, InOrder}
+use Rattle.response.proofs.Steady.{after-within, done-after}
+use Rattle.response.proofs.Granted.{granted-unfinished}
 
-module _ (f : Facts) (firsts : ℕ → ℕ) where
+module _ (waits : Waits) (f : Facts) (releases : ℕ → Releases) where
   -- the run comes to slot t after t slots
-  pub run-slot : (t : ℕ) → runTo f firsts t .slot ≡ t
-  unfolding runTo atStart nextState
+  pub run-slot : (t : ℕ) → runBy waits f releases t .slot ≡ t
+  unfolding runBy atStart nextStateBy
   run-slot zero = refl
   run-slot (suc t) = ap suc (run-slot t)
 
   -- a run starts with every flow idle
-  pub run-start : (l : ℕ) → runTo f firsts 0 .done l ≡ f .len l
-  unfolding runTo atStart
+  pub run-start : (l : ℕ) → runBy waits f releases 0 .done l ≡ f .len l
+  unfolding runBy atStart
   run-start l = refl
 
   -- what a slot leaves is what the next one finds
-  pub run-done : (t l : ℕ) → runTo f firsts (suc t) .done l ≡ after (courseOf f firsts l) t
-  unfolding runTo nextState after courseOf
+  pub run-done : (t l : ℕ) → runBy waits f releases (suc t) .done l ≡ after (courseOf waits f releases l) t
+  unfolding runBy nextStateBy after courseOf
   run-done t l = refl
 
-  -- the steps done after the releases of slot t
-  done-now :
-      (t l : ℕ) → doneNow f firsts (runTo f firsts t) l ≡ cond (released f firsts t l) 0 (runTo f firsts t .done l)
-  unfolding doneNow
-  done-now t l = rw (run-slot t)
-
-  pub run-steady : (l : ℕ) → Steady (courseOf f firsts l)
-  unfolding courseOf
+  pub run-steady : (l : ℕ) → Steady (courseOf waits f releases l)
+  unfolding courseOf doneNow
   run-steady l =
       record {
-        idle = λ e. rw (done-now 0 l, e) (run-start l);
-        anew = λ t e. rw (done-now t l, e);
-        steps = λ t e. rw (done-now (suc t) l, e) (run-done t l);
-        within = λ t m. granted-unfinished f firsts (runTo f firsts t) l m;
+        idle = λ e. rw e (run-start l);
+        anew = λ t e. rw e;
+        steps = λ t e. rw e (run-done t l);
+        within = λ t m. granted-unfinished waits f (releases t) (runBy waits f releases t) l m;
       }
 
-  -- the greedy rule keeps a flow waiting only behind a flow above it
-  pub run-running : Running (f .flows) (courseOf f firsts) (f .period) (matrix f)
+  -- where a measure covers the rule, a flow waits only behind a flow above it
+  pub run-running :
+      (μ : Measure) (covers : Covers waits f μ)
+      → ((l : ℕ) → l < f .flows → Apart (λ t. releases t .due l) (f .period l))
+      → Running (f .flows) (courseOf waits f releases) (f .period) (covers .marks)
   unfolding courseOf
-  run-running =
+  run-running μ covers apart =
       record {
         steady = λ l l<. run-steady l;
-        apart = λ l l<. released-apart f firsts l;
+        apart = apart;
         waits =
             λ l t l< left m.
-            let (h, h<, mh, marked) = waits-for f firsts (runTo f firsts t) l l< left m in
-            (h, h<, record { goes = mh; unfinished = granted-unfinished f firsts (runTo f firsts t) h mh; marked = marked });
+            let (h, h<, mh, marked) = covers .blocked (releases t) (runBy waits f releases t) l l< left m in
+            let busy = granted-unfinished waits f (releases t) (runBy waits f releases t) h mh in
+            (h, h<, record { goes = mh; unfinished = busy; marked = marked });
       }
 
   -- the steps done never pass the plan
-  pub run-within : (t l : ℕ) → runTo f firsts t .done l ≤ f .len l
+  pub run-within : (t l : ℕ) → runBy waits f releases t .done l ≤ f .len l
   unfolding courseOf
   run-within zero l = le-of-eq (run-start l)
-  run-within (suc t) l = rw (run-done t l) (after-within (courseOf f firsts l) (run-steady l) t)
+  run-within (suc t) l = rw (run-done t l) (after-within (courseOf waits f releases l) (run-steady l) t)
 
-  -- a flow is idle until its first release
-  pub run-idle : (t l : ℕ) → t ≤ firsts l → runTo f firsts t .done l ≡ f .len l
-  unfolding courseOf
-  run-idle zero l t≤ = run-start l
-  run-idle (suc t) l t≤ =
-      by-order (f .len l) (runTo f firsts (suc t) .done l) (le-antisymm (run-within (suc t) l))
-      (λ left.
-      let steady : Steady (courseOf f firsts l) = run-steady l in
-      let q : Latest (courseOf f firsts l) t
-      = latest (courseOf f firsts l) steady t (omega (arith, run-done t l, done-after (courseOf f firsts l) steady t)) in
-      absurd (omega (arith, released-late f firsts l (q .slot) (q .at))))
-
-  -- no other release within a period
-  pub run-quiet : (l v t : ℕ) → t < releaseAt f firsts l v + f .period l → Quiet (courseOf f firsts l) (releaseAt f firsts l v) t
-  unfolding courseOf
-  run-quiet l v t t< u u> u≤ =
-      by-test (released f firsts u l)
-      (λ e. absurd (omega (arith, released-apart f firsts l (releaseAt f firsts l v) u (release-comes f firsts l v) e u>)))
-      (λ e. e)
-
-  -- a granted flow has been released
-  pub granted-begun : (t l : ℕ) → among (granted f firsts (runTo f firsts t)) l ≡ true → firsts l ≤ t
-  unfolding courseOf
-  granted-begun t l m =
-      let q : Latest (courseOf f firsts l) t = latest (courseOf f firsts l) (run-steady l) t (run-steady l .within t m) in
-      omega (arith, released-late f firsts l (q .slot) (q .at))
+  -- a flow is idle until it begins
+  pub run-idle : (l : ℕ) → InOrder releases l → (t : ℕ) → releases t .begun l ≡ false → runBy waits f releases t .done l ≡ f .len l
+  unfolding courseOf doneNow
+  run-idle l order zero e = run-start l
+  run-idle l order (suc t) e =
+      let (early, quiet) = or-false (releases t .begun l) (releases t .due l) (sym (order .begins t) ∙ e) in
+      let idle : courseOf waits f releases l .done t ≡ f .len l = rw quiet (run-idle l order t early) in
+      le-antisymm (run-within (suc t) l) (rw (run-done t l) (omega (arith, done-after (courseOf waits f releases l) (run-steady l) t)))

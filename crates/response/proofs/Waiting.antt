@@ -7,7 +7,7 @@ use native.Mathlib.Omega.{arith}
 use native.Mathlib.Nat.{mul-le-mul-right, le-trans, le-of-eq, le-antisymm}
 use Rattle.trade.specs.First.{sumTo}
 use Rattle.trade.specs.Interference.{Matrix}
-use Rattle.trade.specs.Bound.{instances}
+use Rattle.trade.specs.Bound.{instances, Measure}
 use Rattle.response.specs.Course.{Course, waiting, acting, after}
 use Rattle.response.specs.Window.{Potential, Window}
 use Rattle.response.specs.Counting.{Carried}
@@ -21,16 +21,16 @@ use Rattle.response.proofs.Steady.{Quiet, Latest, after-within, done-af
 
 -- a bound is at least one slot, and so is a period
 pub bound-positive :
-    {m : ℕ} {len period carry : ℕ → ℕ} {top : ℕ → ℕ → ℕ} {R : ℕ → ℕ}
-    → Bounded m len period carry top R
+    {m : ℕ} {len period : ℕ → ℕ} {μ : Measure} {R : ℕ → ℕ}
+    → Bounded m len period μ R
     → (l : ℕ)
     → l < m
     → 1 ≤ R l
 bound-positive bounds l l< = omega (arith, bounds .plan l l<, bounds .enough l l<)
 
 pub period-positive :
-    {m : ℕ} {len period carry : ℕ → ℕ} {top : ℕ → ℕ → ℕ} {R : ℕ → ℕ}
-    → Bounded m len period carry top R
+    {m : ℕ} {len period : ℕ → ℕ} {μ : Measure} {R : ℕ → ℕ}
+    → Bounded m len period μ R
     → (l : ℕ)
     → l < m
     → 1 ≤ period l
@@ -42,14 +42,13 @@ module _
     (period : ℕ → ℕ)
     (marks : ℕ → ℕ → Matrix)
     (run : Running m flow period marks)
-    (carry : ℕ → ℕ)
-    (top : ℕ → ℕ → ℕ)
+    (μ : Measure)
     (R : ℕ → ℕ)
-    (bounds : Bounded m (λ l. flow l .len) period carry top R)
+    (bounds : Bounded m (λ l. flow l .len) period μ R)
   where
     module _
         (F : ℕ → ℕ → ℕ → ℕ → ℕ)
-        (potential : (l h : ℕ) → l < m → h < l → Potential (marks l h) (flow l .len) (flow h .len) (top l h) (F l h))
+        (potential : (l h : ℕ) → l < m → h < l → Potential (marks l h) (flow l .len) (flow h .len) (μ .cost l h) (F l h))
       where
         -- the bound of an instance ends before the next release of its flow
         bound-quiet : (l r t : ℕ) → l < m → flow l .released r ≡ true → suc t ≡ r + R l → Quiet (flow l) r t
@@ -62,14 +61,14 @@ module _
             (l r : ℕ) → l < m → flow l .released r ≡ true → (t : ℕ) → suc t ≡ r + R l → t < T → after (flow l) t ≡ flow l .len
 
         -- then an instance that is unfinished in slot r ≤ T was released within the carry-in
-        carried-in : (T : ℕ) → InTimeTo T → (h r : ℕ) → h < m → r ≤ T → Carried (flow h) (carry h) r
+        carried-in : (T : ℕ) → InTimeTo T → (h r : ℕ) → h < m → r ≤ T → Carried (flow h) (μ .carry h) r
         unfolding InTimeTo
         carried-in T in-time h r h< r≤ left =
             let q : Latest (flow h) r = latest (flow h) (run .steady h h<) r left in
-            by-order (q .slot + carry h) r
+            by-order (q .slot + μ .carry h) r
             (λ old.
             let positive : 1 ≤ R h = bound-positive bounds h h< in
-            let bounded : R h ≤ carry h = bounds .carried h h< in
+            let bounded : R h ≤ μ .carry h = bounds .carried h h< in
             let end : ℕ = q .slot + R h - 1 in
             let finished : after (flow h) end ≡ flow h .len = in-time h (q .slot) h< (q .at) end (omega arith) (omega arith) in
             absurd
@@ -110,13 +109,13 @@ module _
                     )
 
             -- it waits no longer than they may act
-            its-waiting : waiting (flow l) r (R l) ≤ sumTo (λ h. instances (R l) (carry h) (period h) * top l h) l
+            its-waiting : waiting (flow l) r (R l) ≤ sumTo (λ h. instances (R l) (μ .carry h) (period h) * μ .cost l h) l
             its-waiting =
                 le-trans
-                (window-lemma (flow l) l flow (marks l) r (R l) its-window (top l) (F l) (λ h h<. potential l h l< h<))
-                (sum-mono (λ h. acting (flow h) r (R l) * top l h) (λ h. instances (R l) (carry h) (period h) * top l h) l
-                (λ h h<. mul-le-mul-right (top l h)
-                (counting-lemma (flow h) (period h) (carry h) r (R l) (period-positive bounds h (omega arith)) (bound-positive bounds l l<)
+                (window-lemma (flow l) l flow (marks l) r (R l) its-window (μ .cost l) (F l) (λ h h<. potential l h l< h<))
+                (sum-mono (λ h. acting (flow h) r (R l) * μ .cost l h) (λ h. instances (R l) (μ .carry h) (period h) * μ .cost l h) l
+                (λ h h<. mul-le-mul-right (μ .cost l h)
+                (counting-lemma (flow h) (period h) (μ .carry h) r (R l) (period-positive bounds h (omega arith)) (bound-positive bounds l l<)
                 (run .apart h (omega arith)) (carried-in T in-time h r (omega arith) (omega (arith, bound-positive bounds l l<))))))
 
             -- so the slots that are left to it hold its plan

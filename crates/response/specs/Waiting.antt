@@ -4,7 +4,7 @@ use mathlib.Core.Path.{_≡_}
 use mathlib.Core.Bool.{true, false}
 use Rattle.trade.specs.First.{sumTo}
 use Rattle.trade.specs.Interference.{Matrix}
-use Rattle.trade.specs.Bound.{instances}
+use Rattle.trade.specs.Bound.{instances, Measure}
 use Rattle.response.specs.Course.{Course, after}
 use Rattle.response.specs.Window.{Blocks}
 use Rattle.response.specs.Counting.{Apart}
@@ -29,13 +29,13 @@ pub record Running (m : ℕ) (flow : ℕ → Course) (period : ℕ → ℕ) (mar
       → flow l .goes t ≡ false
       → (h : ℕ) × (h < l) × Blocks (marks l h) (flow l) (flow h) t
 
--- R bounds each flow: it holds the flow's plan, and with it what the flows above may take in R slots; it exceeds neither the
--- carry-in that the flows below count for it nor its period
-pub record Bounded (m : ℕ) (len period carry : ℕ → ℕ) (top : ℕ → ℕ → ℕ) (R : ℕ → ℕ) : Type 0 where
+-- R bounds each flow by a measure: it holds the flow's plan, and with it what the flows above may take in R slots; it exceeds neither
+-- the carry-in that the flows below count for it nor its period
+pub record Bounded (m : ℕ) (len period : ℕ → ℕ) (μ : Measure) (R : ℕ → ℕ) : Type 0 where
   pub plan : (l : ℕ) → l < m → 1 ≤ len l
-  pub carried : (l : ℕ) → l < m → R l ≤ carry l
+  pub carried : (l : ℕ) → l < m → R l ≤ μ .carry l
   pub ends : (l : ℕ) → l < m → R l ≤ period l
-  pub enough : (l : ℕ) → l < m → len l + sumTo (λ h. instances (R l) (carry h) (period h) * top l h) l ≤ R l
+  pub enough : (l : ℕ) → l < m → len l + sumTo (λ h. instances (R l) (μ .carry h) (period h) * μ .cost l h) l ≤ R l
 
 -- each instance is finished R slots after its release
 abbrev pub InTime : ℕ → (ℕ → Course) → (ℕ → ℕ) → Type 0

@@ -1,40 +1,28 @@
--- ADVANCE: its answer by its rules in their order, and what it leaves where it is done. Leans on Refusing, Seeing, Prefix and Places.
--- Assumes nothing.
+-- ADVANCE: its answer by its rules in their order, and what it leaves where it is done. Leans on RunSlotLaws. Assumes nothing.
 use Prim.Native.Nat.{ℕ, suc, _*_, _≤_, _<_}
-use mathlib.Core.Path.{_≡_, refl, sym, _∙_, ap, ap₂}
+use mathlib.Core.Path.{_≡_, refl, sym, _∙_, ap}
 use mathlib.Core.Bool.{true, false, cond}
 use mathlib.Core.Logic.{⊎-elim}
 use mathlib.Core.List.{List, [], _∷_}
 use native.Mathlib.Omega.{arith}
-use lib.Dec.{ltb}
-use lib.ListN.{length, getD}
-use borrow.Author.Tests.{lt-ltb, le-ltb, eq-eqb, ne-eqb}
-use Rattle.trade.specs.Limits.{mostFlows, areaBytes, grantBytes, endOfClock}
+use lib.Dec.{eqb, ltb}
+use lib.ListN.{length}
+use borrow.Author.Tests.{lt-ltb, le-ltb, eq-eqb, ne-eqb, eqb-true, eqb-false}
+use Rattle.trade.specs.Limits.{areaBytes, grantBytes}
 use Rattle.trade.specs.Bytes.{over}
 use Rattle.trade.specs.Layout.{sectionsOf}
 use Rattle.trade.specs.Facts.{Facts, factsOf, factsIn, said, stepOf, firstStep}
-use Rattle.trade.specs.Slot.{State, released, doneNow, nextState}
+use Rattle.trade.specs.Slot.{State, Releases, released, releasesOf, doneNow, unfinished, nextStep, greedy, grantedBy, instanceAt, nextState, nextStateBy, grantOf, grantsOf}
 use Rattle.trade.specs.Area.{stateIn, areaOf}
 use Rattle.trade.specs.Answers.{done, refused, isDone, firstOf, noNumber}
-use Rattle.trade.specs.Codes.{badPlace, overrun, code10, code11, code12, code13}
-use Rattle.trade.specs.Calls.{bookRules, readAnswer, Advancing, flowsGranted, advanceAnswer, advanceOf, nextArea, grantsIn}
+use Rattle.trade.specs.Codes.{code13}
+use Rattle.trade.specs.SlotCodes.{badPlace, overrun, code10, code11, code12}
+use Rattle.trade.specs.Calls.{bookRules, readAnswer, Advancing, flowsGranted, flowsGrantedBy, advanceAnswer, advanceAnswerBy, advanceBy, nextAreaBy, grantsInBy}
 use Rattle.trade.specs.declared.answer.Answer.{Answer}
-use Rattle.trade.specs.declared.state.Run.{Run}
-use Rattle.trade.proofs.First.{bool-cases, lt-or-ge}
-use Rattle.trade.proofs.Answers.{firstOf-rule, firstOf-refuse, firstOf-pass, firstOf-on, given-true, given-false, givenFirst-same}
-use Rattle.trade.proofs.Area.{placeByte}
-use Rattle.slot.specs.States.{stateOf}
-use Rattle.area.specs.Area.{HeldIn}
+use Rattle.trade.proofs.First.{bool-cases}
+use Rattle.trade.proofs.Answers.{firstOf-rule, firstOf-refuse, firstOf-pass, firstOf-on, given-true, given-false}
 use Rattle.area.specs.Refusals.{runAnswer}
-use Rattle.area.specs.Dues.{IsDue}
-use Rattle.slot.specs.Slots.{Released, Ran}
-use Rattle.run.specs.Calls.{Advances}
-use Rattle.area.specs.declared.due.Due.{Due}
-use Rattle.slot.specs.declared.slot.Outcome.{Outcome}
-use Rattle.slot.proofs.Places.{area-same}
-use Rattle.area.proofs.RefusalsLaws.{unused-zero}
-use Rattle.slot.proofs.Prefix.{Alike, Abreast, Level, alike-granted, alike-grants, alike-on}
-use Rattle.area.proofs.DueLaws.{released-once}
+use Rattle.run.specs.Calls.{slotAnswer, slotGranted, RunsSlot, Advances}
 
 -- memory that is too short, and memory that is not
 pub too-short : (needed : ℕ) (memory : List ℕ) → length memory < needed → code13 needed memory ≡ refused 13 0
@@ -57,47 +45,15 @@ three x y z n =
     (λ (d : isDone x ≡ false). rw (d, d))
     (bool-cases (isDone x))
 
--- the run that an area holds is refused as the run that was read from it
-module _ (b area : List ℕ) (few : sectionsOf b .flows ≤ mostFlows) (run : Run) (reads : HeldIn area run) where
-  abbrev part : Facts
-  part = factsIn 0 (sectionsOf b .flows) [] (sectionsOf b .records) []
-
-  bad-read : (i : ℕ) → i < mostFlows → badPlace part (stateOf run) i ≡ badPlace (said b) (stateIn area) i
-  unfolding badPlace said factsOf stateOf
-  bad-read i h = rw (reads .slot, reads .places i h)
-
-  overrun-read : (i : ℕ) → i < sectionsOf b .flows → overrun part (stateOf run) i ≡ overrun (said b) (stateIn area) i
-  unfolding overrun released said factsOf stateOf
-  overrun-read i h = rw (reads .slot, reads .places i (omega arith))
-
-  ten : code10 part (stateOf run) ≡ code10 (said b) (stateIn area)
-  unfolding code10 stateOf
-  ten =
-      ap₂ (λ (v : ℕ) (r : Answer). cond (ltb endOfClock v) (refused 10 0) r) (reads .slot)
-      (givenFirst-same 10 (badPlace part (stateOf run)) (badPlace (said b) (stateIn area)) mostFlows mostFlows refl bad-read)
-
-  twelve : code12 (stateOf run) ≡ code12 (stateIn area)
-  unfolding code12 stateOf
-  twelve = rw (reads .slot)
-
-  eleven : code11 part (stateOf run) ≡ code11 (said b) (stateIn area)
-  unfolding code11 said factsOf
-  eleven =
-      givenFirst-same 11 (overrun part (stateOf run)) (overrun (said b) (stateIn area)) (sectionsOf b .flows) (sectionsOf b .flows) refl overrun-read
-
-  pub read-answer : runAnswer part (stateOf run) ≡ runAnswer (said b) (stateIn area)
-  unfolding runAnswer
-  read-answer = λ t. cond (isDone (ten t)) (cond (isDone (twelve t)) (eleven t) (twelve t)) (ten t)
-
 -- the rules after those of the book: on the run area, on the grant buffer, and on the run
 abbrev rule10 : Advancing → Answer
-rule10 a = code10 (said (a .book)) (stateIn (a .area))
+rule10 a = code10 (said (a .book)) (releasesOf (said (a .book)) (stateIn (a .area))) (stateIn (a .area))
 
 abbrev rule12 : Advancing → Answer
 rule12 a = code12 (stateIn (a .area))
 
 abbrev rule11 : Advancing → Answer
-rule11 a = code11 (said (a .book)) (stateIn (a .area))
+rule11 a = code11 (said (a .book)) (releasesOf (said (a .book)) (stateIn (a .area))) (stateIn (a .area))
 
 abbrev runRules : List (Advancing → Answer)
 runRules = rule10 ∷ rule12 ∷ rule11 ∷ []
@@ -121,7 +77,7 @@ module _ (b area grants : List ℕ) where
 
   -- refused, nothing is touched
   pub advance-refused : (r : Answer) → advanceAnswer handed ≡ r → (r .code ≡ 0 → ⊥) → Advances handed r area grants
-  unfolding advanceOf isDone
+  unfolding advanceBy isDone
   advance-refused r e n =
       record {
         answer = sym e;
@@ -130,12 +86,12 @@ module _ (b area grants : List ℕ) where
       }
 
   pub book-refused : (readAnswer b .code ≡ 0 → ⊥) → advanceAnswer handed ≡ readAnswer b
-  unfolding advanceAnswer readAnswer isDone
+  unfolding advanceAnswerBy readAnswer isDone
   book-refused n = firstOf-on (λ (a : Advancing). a .book) bookRules areaRules count handed ∙ rw (ne-eqb (firstOf bookRules noNumber b .code) 0 n)
 
   module _ (opened : readAnswer b .code ≡ 0) where
     left-to : advanceAnswer handed ≡ firstOf areaRules count handed
-    unfolding advanceAnswer readAnswer isDone
+    unfolding advanceAnswerBy readAnswer isDone
     left-to = firstOf-on (λ (a : Advancing). a .book) bookRules areaRules count handed ∙ rw (eq-eqb (firstOf bookRules noNumber b .code) 0 opened)
 
     pub area-short : length area < areaBytes → advanceAnswer handed ≡ refused 13 0
@@ -155,108 +111,65 @@ module _ (b area grants : List ℕ) where
       module _ (lent : grantBytes * said b .flows ≤ length grants) where
         by-run :
             advanceAnswer handed
-            ≡ cond (isDone (runAnswer (said b) (stateIn area))) (done (length (flowsGranted handed))) (runAnswer (said b) (stateIn area))
+            ≡ cond (isDone (slotAnswer (said b) area)) (done (length (flowsGranted handed))) (slotAnswer (said b) area)
         unfolding runAnswer firstOf
         by-run =
             let f : Facts = said b in
             let s : State = stateIn area in
+            let r : Releases = releasesOf f s in
             area-fits
-            ∙ firstOf-pass grantRule runRules count handed (ap (λ (r : Answer). r .code) (long-enough (grantBytes * said b .flows) grants lent))
+            ∙ firstOf-pass grantRule runRules count handed (ap (λ (x : Answer). x .code) (long-enough (grantBytes * said b .flows) grants lent))
             ∙ firstOf-rule rule10 (rule12 ∷ rule11 ∷ []) count handed
-            ∙ ap (λ (w : Answer). cond (isDone (code10 f s)) w (code10 f s))
+            ∙ ap (λ (w : Answer). cond (isDone (code10 f r s)) w (code10 f r s))
             (firstOf-rule rule12 (rule11 ∷ []) count handed
             ∙ ap (λ (w : Answer). cond (isDone (code12 s)) w (code12 s)) (firstOf-rule rule11 [] count handed))
-            ∙ three (code10 f s) (code12 s) (code11 f s) (length (flowsGranted handed))
+            ∙ three (code10 f r s) (code12 s) (code11 f r s) (length (flowsGranted handed))
 
-        pub run-refused : (runAnswer (said b) (stateIn area) .code ≡ 0 → ⊥) → advanceAnswer handed ≡ runAnswer (said b) (stateIn area)
-        unfolding isDone
-        run-refused n = by-run ∙ rw (ne-eqb (runAnswer (said b) (stateIn area) .code) 0 n)
+        -- a slot over the book's sections is the slot of the book: its node count bears on nothing
+        abbrev ours : Facts
+        ours = factsIn 0 (sectionsOf b .flows) (sectionsOf b .rows) (sectionsOf b .records) (sectionsOf b .steps)
 
-        -- where every rule passes, the slot runs
-        module _ (passes : runAnswer (said b) (stateIn area) .code ≡ 0) where
-          all-passed : advanceAnswer handed ≡ done (length (flowsGranted handed))
+        same-answer : slotAnswer ours area ≡ slotAnswer (said b) area
+        unfolding runAnswer code10 code11 badPlace overrun released said factsOf
+        same-answer = refl
+
+        same-granted : slotGranted ours area ≡ slotGranted (said b) area
+        unfolding grantedBy greedy unfinished nextStep doneNow released stepOf firstStep said factsOf
+        same-granted = refl
+
+        same-next : areaOf (ours .flows) (nextState ours (releasesOf ours (stateIn area)) (stateIn area)) ≡ nextAreaBy greedy releasesOf handed
+        unfolding nextAreaBy nextStateBy grantedBy greedy unfinished nextStep doneNow released stepOf firstStep said factsOf
+        same-next = refl
+
+        same-grants :
+            grantsOf (grantOf ours (releasesOf ours (stateIn area)) (stateIn area)) (slotGranted ours area) ≡ grantsInBy greedy releasesOf handed
+        unfolding grantsInBy flowsGrantedBy grantOf instanceAt grantedBy greedy unfinished nextStep doneNow released stepOf firstStep said factsOf
+        same-grants = refl
+
+        same-count : slotGranted ours area ≡ flowsGranted handed
+        unfolding flowsGrantedBy
+        same-count = same-granted
+
+        module _ (r : Answer) (left made : List ℕ) (ran : RunsSlot ours area grants r left made) where
+          slot-runs : slotAnswer (said b) area .code ≡ 0 → Advances handed r left made
+          unfolding advanceBy isDone
+          slot-runs z =
+              let passes : slotAnswer ours area .code ≡ 0 = ap (λ (x : Answer). x .code) same-answer ∙ z in
+              let all : advanceAnswer handed ≡ done (length (flowsGranted handed)) = by-run ∙ rw (eq-eqb (slotAnswer (said b) area .code) 0 z) in
+              record {
+                answer = ran .answer passes ∙ ap (λ (is : List ℕ). done (length is)) same-count ∙ sym all;
+                area = rw all (ran .area passes ∙ ap (λ (bytes : List ℕ). over bytes area) same-next);
+                grants = rw all (ran .grants passes ∙ ap (λ (bytes : List ℕ). over bytes grants) same-grants);
+              }
+
+          slot-stops : (slotAnswer (said b) area .code ≡ 0 → ⊥) → Advances handed r left made
           unfolding isDone
-          all-passed = by-run ∙ rw (eq-eqb (runAnswer (said b) (stateIn area) .code) 0 passes)
+          slot-stops n =
+              let (same, kept, lent-as) = ran .refused (λ z. n (sym (ap (λ (x : Answer). x .code) same-answer) ∙ z)) in
+              let stops : advanceAnswer handed ≡ r = by-run ∙ rw (ne-eqb (slotAnswer (said b) area .code) 0 n) (sym (same ∙ same-answer)) in
+              rw (kept, lent-as) (advance-refused r stops (λ z. n (sym (ap (λ (x : Answer). x .code) (same ∙ same-answer)) ∙ z)))
 
-          -- what is due is due in the run that was read, and that is the run of the area
-          module _
-              (few : said b .flows ≤ mostFlows) (run : Run) (reads : HeldIn area run)
-              (due : Due) (isDue : IsDue (factsIn 0 (sectionsOf b .flows) [] (sectionsOf b .records) []) run due)
-            where
-              abbrev ours : Facts
-              ours = factsIn 0 (sectionsOf b .flows) (sectionsOf b .rows) (sectionsOf b .records) (sectionsOf b .steps)
-
-              abbrev firsts : ℕ → ℕ
-              firsts i = getD (due .firsts) i 0
-
-              alike : Alike (said b .flows) (said b) ours
-              unfolding said factsOf stepOf firstStep
-              alike =
-                  record {
-                    disturbs = λ x y. refl;
-                    id = λ i h. refl;
-                    phase = λ i h. refl;
-                    period = λ i h. refl;
-                    len = λ i h. refl;
-                    steps = λ i j h l. refl;
-                  }
-
-              flows-ours : ours .flows ≡ said b .flows
-              unfolding said factsOf
-              flows-ours = refl
-
-              flows-due : factsIn 0 (sectionsOf b .flows) [] (sectionsOf b .records) [] .flows ≡ said b .flows
-              unfolding said factsOf
-              flows-due = refl
-
-              phases : (i : ℕ) → i < said b .flows → said b .phase i ≡ firsts i
-              unfolding said factsOf
-              phases i h = sym (isDue .firsts i h)
-
-              level : Level (said b .flows) (said b) ours (said b .phase) firsts (stateIn area) (stateOf (due .run))
-              unfolding said factsOf stateOf Released doneNow released
-              level =
-                  record {
-                    slot = sym (isDue .slot ∙ reads .slot);
-                    done =
-                        λ i h.
-                        rw (← reads .slot, ← reads .places i (omega arith)) (sym (isDue .places i h) ∙ sym (released-once (sectionsOf b .flows) (sectionsOf b .rows) (sectionsOf b .records) (sectionsOf b .steps) run due isDue i h));
-                  }
-
-              on : Abreast (said b .flows) (nextState (said b) (said b .phase) (stateIn area)) (nextState ours firsts (stateOf (due .run)))
-              on =
-                  alike-on (said b .flows) (said b) ours alike (said b .phase) firsts phases (stateIn area) (stateOf (due .run)) level (omega arith)
-                  (omega (arith, flows-ours))
-
-              module _ (out : Outcome) (left : List ℕ) (ran : Ran ours firsts (due .run) grants out left) where
-                slot : stateOf (out .run) .slot ≡ nextState (said b) (said b .phase) (stateIn area) .slot
-                unfolding stateOf nextState
-                slot = ran .slot ∙ ap suc (isDue .slot ∙ reads .slot)
-
-                places :
-                    (i : ℕ) → i < mostFlows → stateOf (out .run) .done i ≡ placeByte (said b .flows) (nextState (said b) (said b .phase) (stateIn area)) i
-                unfolding stateOf
-                places i h =
-                    ⊎-elim
-                    (λ (l : i < said b .flows). rw (lt-ltb i (said b .flows) l) (ran .places i (omega (arith, flows-ours)) ∙ sym (on .done i l)))
-                    (λ (l : said b .flows ≤ i).
-                    rw (le-ltb i (said b .flows) l)
-                    (ran .others i (omega (arith, flows-ours)) ∙ isDue .others i (omega (arith, flows-due)) ∙ reads .places i h ∙ unused-zero (said b) (stateIn area) passes i h l))
-                    (lt-or-ge i (said b .flows))
-
-                pub advance-done : Advances handed (done (out .count)) (over (areaOf mostFlows (stateOf (out .run))) area) left
-                unfolding advanceOf isDone flowsGranted grantsIn nextArea
-                advance-done =
-                    let f : Facts = said b in
-                    let s : State = stateIn area in
-                    let u : State = stateOf (due .run) in
-                    record {
-                      answer =
-                          ap done (ran .count ∙ sym (ap length (alike-granted (f .flows) f ours alike (f .phase) firsts phases s u level refl flows-ours)))
-                          ∙ sym all-passed;
-                      area = rw all-passed (ap (λ (bytes : List ℕ). over bytes area) (area-same (f .flows) (stateOf (out .run)) (nextState f (f .phase) s) slot places));
-                      grants =
-                          ran .grants
-                          ∙ sym (ap (λ (bytes : List ℕ). over bytes grants) (alike-grants (f .flows) f ours alike (f .phase) firsts phases s u level refl flows-ours))
-                          ∙ rw all-passed;
-                    }
+          pub slot-advances : Advances handed r left made
+          slot-advances =
+              ⊎-elim (λ e. slot-runs (eqb-true (slotAnswer (said b) area .code) 0 e)) (λ e. slot-stops (eqb-false (slotAnswer (said b) area .code) 0 e))
+              (bool-cases (eqb (slotAnswer (said b) area .code) 0))

@@ -1,4 +1,5 @@
--- Laws that the proofs of this crate's functions, and those above it, cite.
+-- Laws that the proofs of this crate's functions cite.
+pub mod RunSlotLaws
 pub mod AdvanceLaws
 pub mod StartLaws
 pub mod Unique

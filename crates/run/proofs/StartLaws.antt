@@ -1,5 +1,5 @@
--- START: its answer by its rules in their order, and what it leaves where it is done. Leans on Advanced and Places, and on admission's
--- Checking. Assumes nothing.
+-- START: its answer by its rules in their order, and what it leaves where it is done. Leans on AdvanceLaws and on the slot's
+-- Places. Assumes nothing.
 use Prim.Native.Nat.{ℕ, _≤_, _<_}
 use mathlib.Core.Path.{_≡_, sym, _∙_, ap}
 use mathlib.Core.Logic.{⊎-elim}
@@ -14,7 +14,7 @@ use Rattle.trade.specs.Slot.{atStart}
 use Rattle.trade.specs.Area.{areaOf}
 use Rattle.trade.specs.Answers.{done, refused, isDone, firstOf, noNumber}
 use Rattle.trade.specs.Codes.{code13}
-use Rattle.trade.specs.Calls.{checkRules, checkAnswer, Starting, startAnswer, startArea, startOf}
+use Rattle.trade.specs.Calls.{checkRules, checkAnswer, checkAnswerBy, Starting, startAnswer, startAnswerBy, startArea, startBy}
 use Rattle.trade.specs.declared.answer.Answer.{Answer}
 use Rattle.trade.specs.declared.state.Run.{Run}
 use Rattle.trade.proofs.First.{lt-or-ge}
@@ -36,18 +36,18 @@ module _ (b area : List ℕ) where
 
   -- refused, nothing is touched
   pub start-refused : (r : Answer) → startAnswer handed ≡ r → (r .code ≡ 0 → ⊥) → Starts handed r area
-  unfolding startOf isDone
+  unfolding startBy isDone
   start-refused r e n = record { answer = sym e; area = rw (e, ne-eqb (r .code) 0 n) }
 
   pub check-refuses : (checkAnswer b .code ≡ 0 → ⊥) → startAnswer handed ≡ checkAnswer b
-  unfolding startAnswer checkAnswer isDone
+  unfolding startAnswerBy checkAnswerBy isDone
   check-refuses n =
       firstOf-on (λ (s : Starting). s .book) checkRules (areaRule ∷ []) noNumber handed
       ∙ rw (ne-eqb (firstOf checkRules noNumber b .code) 0 n)
 
   module _ (checks : checkAnswer b .code ≡ 0) where
     left-to : startAnswer handed ≡ firstOf (areaRule ∷ []) noNumber handed
-    unfolding startAnswer checkAnswer isDone
+    unfolding startAnswerBy checkAnswerBy isDone
     left-to =
         firstOf-on (λ (s : Starting). s .book) checkRules (areaRule ∷ []) noNumber handed
         ∙ rw (eq-eqb (firstOf checkRules noNumber b .code) 0 checks)
@@ -67,7 +67,7 @@ module _ (b area : List ℕ) where
           (run : Run)
           → Idle (said b .flows) (sectionsOf b .records) run
           → Starts handed (done 0) (over (areaOf mostFlows (stateOf run)) area)
-      unfolding startOf startArea atStart isDone stateOf said factsOf
+      unfolding startBy startArea atStart isDone stateOf said factsOf
       start-done run idle =
           record {
             answer = sym all-passed;

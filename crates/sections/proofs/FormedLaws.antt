@@ -2,18 +2,15 @@
 -- plans lie in the steps. Leans on the trade's Valid. Assumes nothing.
 use Prim.Native.Nat.{ℕ, _+_, _*_, _≤_, _<_, suc, _-_}
 use mathlib.Core.Path.{_≡_}
-use mathlib.Core.Bool.{false}
 use mathlib.Core.List.{List}
 use native.Mathlib.Omega.{arith}
 use lib.ListN.{length, drop, length-drop}
-use borrow.Author.Tests.{leb-false, eqb-false}
 use Rattle.trade.specs.Limits.{mostNodes, mostFlows, rowBytes, recordBytes, stepBytes, mostSteps}
 use Rattle.trade.specs.Layout.{Sections, field}
-use Rattle.trade.specs.Facts.{Facts, factsOf, firstStep, allSteps}
-use Rattle.trade.specs.Codes.{badRecord, badStep, code6, code8}
-use Rattle.trade.proofs.First.{or-false}
+use Rattle.trade.specs.Facts.{factsOf, firstStep, allSteps}
+use Rattle.trade.specs.Codes.{badRecord, code6, code8}
 use Rattle.trade.proofs.Answers.{givenFirst-passed}
-use Rattle.trade.proofs.Valid.{sound}
+use Rattle.trade.proofs.Valid.{sound, placed}
 use Rattle.sections.specs.Formed.{Formed, planStart, planAt}
 use lib.Seq.{length-take-le}
 use Rattle.trade.specs.First.{sumTo}
@@ -22,31 +19,13 @@ use Rattle.trade.proofs.Sums.{sum-le, sum-next}
 use Rattle.plans.specs.Plan.{AllWithin}
 use Rattle.plans.proofs.StepsLaws.{within-plan}
 
--- a step that is not bad goes from one node below n to another
-pub record Placed (f : Facts) (k : ℕ) : Type 0 where
-  pub sender : f .step k .sender .0 < f .nodes
-  pub receiver : f .step k .receiver .0 < f .nodes
-  pub apart : f .step k .sender .0 ≡ f .step k .receiver .0 → ⊥
-
-pub placed : (f : Facts) (k : ℕ) → badStep f k ≡ false → Placed f k
-unfolding badStep
-placed f k e =
-    let (e₂, joined) = or-false _ _ e in
-    let (e₁, apart) = or-false _ _ e₂ in
-    let (sender, receiver) = or-false _ _ e₁ in
-    record {
-      sender = leb-false _ _ sender;
-      receiver = leb-false _ _ receiver;
-      apart = eqb-false _ _ apart;
-    }
-
 module _
     (s : Sections) (nodes : s .nodes ≤ mostNodes) (flows : s .flows ≤ mostFlows)
     (rows : rowBytes * s .nodes ≤ length (s .rows)) (records : recordBytes * s .flows ≤ length (s .records))
     (steps : stepBytes * allSteps (factsOf s) ≤ length (s .steps))
   where
     pub formed-by : code6 (factsOf s) .code ≡ 0 → code8 (factsOf s) .code ≡ 0 → Formed (s .flows) (s .rows) (s .records) (s .steps)
-    unfolding code6 code8 factsOf firstStep allSteps
+    unfolding code6 factsOf firstStep allSteps
     formed-by six eight =
         record {
           most = flows;
@@ -62,7 +41,7 @@ module _
           planned = steps;
           within =
               λ j h.
-              let p = placed (factsOf s) j (givenFirst-passed 7 (badStep (factsOf s)) (allSteps (factsOf s)) eight j h) in
+              let p = placed (factsOf s) eight j h in
               record {
                 sender = record { numbered = omega (arith, p .sender); row = omega (arith, p .sender) };
                 receiver = record { numbered = omega (arith, p .receiver); row = omega (arith, p .receiver) };
@@ -82,13 +61,14 @@ formed-less k m rows records steps h f =
       within = λ j l. f .within j (omega arith);
     }
 
-module _ (k : ℕ) (rows records steps : List ℕ) (f : Formed k rows records steps) (i : ℕ) (l : i < k) where
-  -- the plan of flow i lies in the steps
-  upto : planStart records i + field records i 4 ≤ planStart records k
-  upto = omega (arith, sum-next (λ (n : ℕ). field records n 4) i, sum-le (λ (n : ℕ). field records n 4) (suc i) k l)
+-- the plan of a flow ends where the next one starts, or before
+pub plan-ends : (records : List ℕ) (i k : ℕ) → i < k → planStart records i + field records i 4 ≤ planStart records k
+plan-ends records i k l = omega (arith, sum-next (λ (n : ℕ). field records n 4) i, sum-le (λ (n : ℕ). field records n 4) (suc i) k l)
 
+module _ (k : ℕ) (rows records steps : List ℕ) (f : Formed k rows records steps) (i : ℕ) (l : i < k) where
+  -- it lies in the steps
   pub plan-lies : stepBytes * (planStart records i + field records i 4) ≤ length steps
-  plan-lies = omega (arith, upto, f .planned)
+  plan-lies = omega (arith, plan-ends records i k l, f .planned)
 
   -- it has at most so many bytes, and its steps lie in the network
   pub length-plan : length (planAt records steps i) ≤ stepBytes * mostSteps
@@ -101,4 +81,4 @@ module _ (k : ℕ) (rows records steps : List ℕ) (f : Formed k rows records st
 
   pub plan-within : AllWithin rows (planAt records steps i)
   plan-within =
-      within-plan steps (planStart records i) (field records i 4) plan-lies rows (λ j h. f .within j (omega (arith, upto)))
+      within-plan steps (planStart records i) (field records i 4) plan-lies rows (λ j h. f .within j (omega (arith, plan-ends records i k l)))

@@ -1,4 +1,4 @@
--- The places of a run: one that was stored, and the others; and bytes stored one behind the other. Leans on book's Pasting.
+-- The places of a run: one that was stored, and the others; and bytes stored one behind the other. Leans on the numbers' PastingLaws.
 -- Assumes nothing.
 use Prim.Native.Nat.{ℕ, zero, suc, _+_, _<_, _≤_}
 use mathlib.Core.Path.{_≡_, refl, sym, _∙_, ap, ap₂}
@@ -20,7 +20,8 @@ use Rattle.trade.proofs.Area.{placeByte}
 use Rattle.trade.specs.declared.state.Progress.{Progress}
 use Rattle.numbers.specs.Pasting.{pastedAt}
 use Rattle.numbers.proofs.PastingLaws.{pasted-next}
-use Rattle.slot.specs.States.{placeOf}
+use Rattle.trade.specs.declared.clock.Slot.{Slot}
+use Rattle.slot.specs.States.{placeOf, slotOf}
 
 -- the place that was stored to, and any other
 pub stored : (places : List Progress) (i : ℕ) (p : Progress) → i < length places → placeOf (set places i p) i ≡ p .done .0
@@ -31,8 +32,17 @@ pub unstored : (places : List Progress) (i j : ℕ) (p : Progress) → (j ≡ i 
 unfolding placeOf
 unstored places i j p n = ap (λ (q : Progress). q .done .0) (getD-set-other places i j p (idleOf 0) n)
 
--- the places of the empty run are 0
-repeated : (n k : ℕ) (p : Progress) → getD (replicate n p) k p ≡ p
+-- the same of slots in a list
+pub slot-stored : (slots : List Slot) (i : ℕ) (v : Slot) → i < length slots → slotOf (set slots i v) i ≡ v .0
+unfolding slotOf
+slot-stored slots i v h = ap (λ (w : Slot). w .0) (getD-set-same slots i v (record { 0 = 0 }) h)
+
+pub slot-unstored : (slots : List Slot) (i j : ℕ) (v : Slot) → (j ≡ i → ⊥) → slotOf (set slots i v) j ≡ slotOf slots j
+unfolding slotOf
+slot-unstored slots i j v n = ap (λ (w : Slot). w .0) (getD-set-other slots i j v (record { 0 = 0 }) n)
+
+-- the places of the empty run are 0, and so are slots before any is stored
+pub repeated : {A : Type 0} (n k : ℕ) (p : A) → getD (replicate n p) k p ≡ p
 repeated zero k p = refl
 repeated (suc n) zero p = refl
 repeated (suc n) (suc k) p = repeated n k p
@@ -40,6 +50,10 @@ repeated (suc n) (suc k) p = repeated n k p
 pub unused : (k : ℕ) → placeOf (emptyRun .flows) k ≡ 0
 unfolding placeOf
 unused k = ap (λ (p : Progress). p .done .0) (repeated mostFlows k (idleOf 0))
+
+pub slots-none : (k : ℕ) → slotOf (replicate mostFlows (record { 0 = 0 })) k ≡ 0
+unfolding slotOf
+slots-none k = ap (λ (w : Slot). w .0) (repeated mostFlows k (record { 0 = 0 }))
 
 -- a figure's values at one index more
 list-from-next : (figure : ℕ → ℕ) (i k : ℕ) → listFrom figure i (suc k) ≡ listFrom figure i k ++ (figure (i + k) ∷ [])

@@ -1,4 +1,5 @@
 -- Definitions that the contracts of this crate cite beside those of the trade.
 pub mod States
-pub mod Turns
-pub mod Slots
+pub mod Release
+pub mod Choice
+pub mod Granting

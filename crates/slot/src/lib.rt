@@ -1,4 +1,5 @@
-// One slot: releases, the choice in record order, and the grant writer.
+// One slot: releases, which flows go, and their grants.
+pub mod choice;
+pub mod granting;
 pub mod release;
-pub mod slot;
 pub mod writer;

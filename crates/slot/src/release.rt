@@ -1,7 +1,7 @@
 // Releases: instance v of a flow is released at its first release + v × P.
 ghost use mathlib.Core.Path.{_≡_};
 ghost use Prim.Native.Nat.{_<_};
-ghost use Rattle.slot.specs.Turns.{releasedAt, instanceBy};
+ghost use Rattle.slot.specs.Release.{releasedAt, instanceBy};
 use trade::Instance;
 use trade::Slot;
 

@@ -1,4 +1,4 @@
--- The run area: a run that was written is read back, and no more of it counts than the book's flows. Leans on Bytes and Agree.
+-- The run area: a run that was written is read back, and no more of it counts than the book's flows. Leans on Bytes and Prefix.
 -- Assumes nothing.
 use Prim.Native.Nat.{ℕ, _^_, _≤_, _<_}
 use mathlib.Core.Path.{_≡_, _∙_, ap₂}
@@ -12,13 +12,12 @@ use borrow.Author.Tests.{ltb-true, lt-ltb, le-ltb}
 use Rattle.trade.specs.Limits.{mostFlows, slotBytes, areaBytes}
 use Rattle.trade.specs.First.{listTo}
 use Rattle.trade.specs.Bytes.{fourBytes, over}
-use Rattle.trade.specs.Facts.{Facts}
 use Rattle.trade.specs.Slot.{State}
 use Rattle.trade.specs.Area.{stateIn, areaOf}
 use Rattle.trade.proofs.First.{bool-cases}
 use Rattle.trade.proofs.Sums.{length-listTo, getD-listTo, listTo-same}
 use Rattle.trade.proofs.Bytes.{byte-behind, long-fourBytes, length-fourBytes}
-use Rattle.trade.proofs.Agree.{Agree}
+use Rattle.trade.proofs.Prefix.{Abreast}
 
 -- the byte of a place: the steps done, or 0 where it is unused
 abbrev pub placeByte : ℕ → State → ℕ → ℕ
@@ -56,25 +55,25 @@ module _ (flows : ℕ) (s : State) (lent : List ℕ) where
   pub area-unused : (i : ℕ) → i < mostFlows → flows ≤ i → stateIn (over (areaOf flows s) lent) .done i ≡ 0
   area-unused i h l = area-place i h ∙ rw (le-ltb i flows l)
 
--- what is read back agrees with what was written
-pub area-agrees :
-    (f : Facts) (s : State) (lent : List ℕ)
-    → f .flows ≤ mostFlows
+-- what is read back is abreast of what was written
+pub area-abreast :
+    (flows : ℕ) (s : State) (lent : List ℕ)
+    → flows ≤ mostFlows
     → s .slot < 2 ^ 32
-    → Agree f (stateIn (over (areaOf (f .flows) s) lent)) s
-area-agrees f s lent m h =
+    → Abreast flows (stateIn (over (areaOf flows s) lent)) s
+area-abreast flows s lent m h =
     record {
-      slot = area-slot (f .flows) s lent h;
-      done = λ i l. area-used (f .flows) s lent i (omega arith) l;
+      slot = area-slot flows s lent h;
+      done = λ i l. area-used flows s lent i (omega arith) l;
     }
 
--- runs that agree are written alike
-pub agree-area : (f : Facts) (s u : State) → Agree f s u → areaOf (f .flows) s ≡ areaOf (f .flows) u
+-- runs that are abreast are written alike
+pub abreast-area : (flows : ℕ) (s u : State) → Abreast flows s u → areaOf flows s ≡ areaOf flows u
 unfolding areaOf
-agree-area f s u a =
-    ap₂ (λ (v : ℕ) (places : List ℕ). fourBytes v ++ places) (a .slot) (listTo-same (placeByte (f .flows) s) (placeByte (f .flows) u) mostFlows same)
+abreast-area flows s u a =
+    ap₂ (λ (v : ℕ) (places : List ℕ). fourBytes v ++ places) (a .slot) (listTo-same (placeByte flows s) (placeByte flows u) mostFlows same)
   where
-    same : (i : ℕ) → i < mostFlows → placeByte (f .flows) s i ≡ placeByte (f .flows) u i
+    same : (i : ℕ) → i < mostFlows → placeByte flows s i ≡ placeByte flows u i
     same i h =
-        ⊎-elim (λ (e : ltb i (f .flows) ≡ true). rw e (a .done i (ltb-true i (f .flows) e))) (λ (e : ltb i (f .flows) ≡ false). rw e)
-        (bool-cases (ltb i (f .flows)))
+        ⊎-elim (λ (e : ltb i flows ≡ true). rw e (a .done i (ltb-true i flows e))) (λ (e : ltb i flows ≡ false). rw e)
+        (bool-cases (ltb i flows))

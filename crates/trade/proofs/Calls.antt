@@ -8,10 +8,12 @@ use lib.ListN.{length, take}
 use borrow.Author.Tests.{le-ltb}
 use Rattle.trade.specs.Bytes.{over}
 use Rattle.trade.specs.Layout.{Sections}
+use Rattle.trade.specs.Facts.{Facts}
 use Rattle.trade.specs.Table.{bookOf}
 use Rattle.trade.specs.Answers.{done, isDone, on, noNumber}
 use Rattle.trade.specs.Codes.{code13}
-use Rattle.trade.specs.Calls.{Writing, Advancing, bookRules, tableRules, readAnswer, writeAnswer, flowsGranted, advanceAnswer, writeOf}
+use Rattle.trade.specs.Slot.{State, Releases, Waits}
+use Rattle.trade.specs.Calls.{Writing, Advancing, bookRules, tableRules, readAnswer, writeAnswer, flowsGrantedBy, advanceAnswerBy, writeOf}
 use Rattle.trade.specs.declared.answer.Answer.{Answer}
 use Rattle.trade.proofs.Answers.{Passed, passed-none, passed-more, passed-append, passed-first, passed-on, passed-look, passed-done, firstOf-passed, firstOf-done, given-false}
 use Rattle.trade.proofs.Bytes.{take-over}
@@ -24,9 +26,12 @@ pub write-done : (w : Writing) → writeAnswer w .code ≡ 0 → writeAnswer w �
 unfolding writeAnswer
 write-done w e = firstOf-done _ _ w e
 
-pub advance-done : (a : Advancing) → advanceAnswer a .code ≡ 0 → advanceAnswer a ≡ done (length (flowsGranted a))
-unfolding advanceAnswer
-advance-done a e = firstOf-done _ _ a e
+pub advance-done :
+    (waits : Waits) (releases : Facts → State → Releases) (a : Advancing)
+    → advanceAnswerBy waits releases a .code ≡ 0
+    → advanceAnswerBy waits releases a ≡ done (length (flowsGrantedBy waits releases a))
+unfolding advanceAnswerBy
+advance-done waits releases a e = firstOf-done _ _ a e
 
 -- memory that is long enough passes code 13
 pub code13-passes : (needed : ℕ) (memory : List ℕ) → needed ≤ length memory → code13 needed memory .code ≡ 0

@@ -14,11 +14,12 @@ use Rattle.trade.specs.Table.{stepsDistanceOf, recordsDistanceOf, rowsDi
 use Rattle.trade.specs.Answers.{isDone, given, givenFirst, firstOf, on}
 use Rattle.trade.specs.Conflict.{meet, conflict, conflictsWith, conflictFree}
 use Rattle.trade.specs.Interference.{one, countOf, worst, worstPath, matrix, interference}
-use Rattle.trade.specs.Bound.{ceil, instances, slotsNeeded, admissible, boundBy, bound, boundless, accepted}
-use Rattle.trade.specs.Slot.{atStart, released, instanceAt, doneNow, unfinished, nextStep, going, greedy, granted, among, nextState, runTo, grantOf, grantsOf}
+use Rattle.trade.specs.Bound.{ceil, instances, slotsNeeded, admissible, boundBy, boundlessBy, acceptedBy, code9By}
+use Rattle.trade.specs.Slot.{atStart, released, instanceAt, releasesOf, doneNow, unfinished, nextStep, going, greedy, grantedBy, among, nextStateBy, runBy, grantOf, grantsOf}
 use Rattle.trade.specs.Area.{stateIn, areaOf}
-use Rattle.trade.specs.Codes.{outside, code1, code2, code3, code4, badRow, code5, badRecord, code6, code7, firstOfPlan, repeats, goesOn, badStep, code8, code14, code15Adding, code15Removing, code9, code13, badPlace, code10, code12, overrun, code11}
-use Rattle.trade.specs.Calls.{bookRules, tableRules, readAnswer, readOf, checkRules, checkAnswer, boundsOf, checkOf, writeAnswer, writeOf, recordOf, withFlow, addAnswer, addOf, withoutFlow, removeAnswer, removeOf, startAnswer, startArea, startOf, flowsGranted, advanceAnswer, nextArea, grantsIn, advanceOf}
+use Rattle.trade.specs.Codes.{outside, code1, code2, code3, code4, badRow, code5, badRecord, code6, code7, firstOfPlan, repeats, goesOn, badStep, code8, code14, code15Adding, code15Removing, code13}
+use Rattle.trade.specs.SlotCodes.{badPlace, code10, code12, overrun, code11}
+use Rattle.trade.specs.Calls.{bookRules, tableRules, readAnswer, readOf, checkRulesBy, checkAnswerBy, boundsBy, checkBy, writeAnswer, writeOf, recordOf, withFlow, addAnswer, addOf, withoutFlow, removeAnswer, removeOf, startAnswerBy, startArea, startBy, flowsGrantedBy, advanceAnswerBy, nextAreaBy, grantsInBy, advanceBy, advanceAnswer, grantsIn, advanceOf}
 use Rattle.trade.specs.Cases.{bookA, bookB, bookOfNone, deadlineAt, lent, grantRoom, areaAfter, slotOf, only, noneDisturbs, bareRows, bare, threeByThree, noMark, noNodes, badDistance, ownBit, noId, longerPlan, jump, tooTight, checks, starts, advances, areaWith, tableA, fullTable, adds, removes, writes, withRecords, withSteps, Cases}
 
 -- with no flows an advance that is done has no grant to count or to write
@@ -27,15 +28,15 @@ every-slot-empty :
     → advanceOf (record { book = bookOfNone; area = area; grants = grants }) .answer .code ≡ 0
     → (advanceOf (record { book = bookOfNone; area = area; grants = grants }) .answer .number ≡ 0)
     × (advanceOf (record { book = bookOfNone; area = area; grants = grants }) .grants ≡ grants)
-unfolding firstFrom first some sumTo largestFrom listFrom listTo word long twoBytes fourBytes bit part padded over trailer rowsDistance recordsDistance stepsDistance nodeCount flowCount sectionsOf field disturbsIn stepIn factsOf said firstStep allSteps stepOf stepsDistanceOf recordsDistanceOf rowsDistanceOf trailerOf used bookOf tableOf emptyTable isDone given givenFirst firstOf on meet conflict conflictsWith conflictFree one countOf worst worstPath matrix interference ceil instances slotsNeeded admissible boundBy bound boundless accepted atStart released instanceAt doneNow unfinished nextStep going greedy granted among nextState runTo grantOf grantsOf stateIn areaOf outside code1 code2 code3 code4 badRow code5 badRecord code6 code7 firstOfPlan repeats goesOn badStep code8 code14 code15Adding code15Removing code9 code13 badPlace code10 code12 overrun code11 bookRules tableRules readAnswer readOf checkRules checkAnswer boundsOf checkOf writeAnswer writeOf recordOf withFlow addAnswer addOf withoutFlow removeAnswer removeOf startAnswer startArea startOf flowsGranted advanceAnswer nextArea grantsIn advanceOf bookA bookB bookOfNone deadlineAt lent grantRoom areaAfter slotOf only noneDisturbs bareRows bare threeByThree noMark noNodes badDistance ownBit noId longerPlan jump tooTight checks starts advances areaWith tableA fullTable adds removes writes withRecords withSteps
-every-slot-empty area grants e = (ap (λ (r : Answer). r .number) (advance-done (record { book = bookOfNone; area = area; grants = grants }) e), either (isDone (advanceAnswer (record { book = bookOfNone; area = area; grants = grants }))))
+unfolding firstFrom first some sumTo largestFrom listFrom listTo word long twoBytes fourBytes bit part padded over trailer rowsDistance recordsDistance stepsDistance nodeCount flowCount sectionsOf field disturbsIn stepIn factsOf said firstStep allSteps stepOf stepsDistanceOf recordsDistanceOf rowsDistanceOf trailerOf used bookOf tableOf emptyTable isDone given givenFirst firstOf on meet conflict conflictsWith conflictFree one countOf worst worstPath matrix interference ceil instances slotsNeeded admissible boundBy boundlessBy acceptedBy atStart released instanceAt doneNow unfinished nextStep going greedy grantedBy among nextStateBy runBy grantOf grantsOf stateIn areaOf outside code1 code2 code3 code4 badRow code5 badRecord code6 code7 firstOfPlan repeats goesOn badStep code8 code14 code15Adding code15Removing code9By code13 badPlace code10 code12 overrun code11 bookRules tableRules readAnswer readOf checkRulesBy checkAnswerBy boundsBy checkBy writeAnswer writeOf recordOf withFlow addAnswer addOf withoutFlow removeAnswer removeOf startAnswerBy startArea startBy flowsGrantedBy advanceAnswerBy nextAreaBy grantsInBy advanceBy bookA bookB bookOfNone deadlineAt lent grantRoom areaAfter slotOf only noneDisturbs bareRows bare threeByThree noMark noNodes badDistance ownBit noId longerPlan jump tooTight checks starts advances areaWith tableA fullTable adds removes writes withRecords withSteps
+every-slot-empty area grants e = (ap (λ (r : Answer). r .number) (advance-done greedy releasesOf (record { book = bookOfNone; area = area; grants = grants }) e), either (isDone (advanceAnswer (record { book = bookOfNone; area = area; grants = grants }))))
   where
     either : (b : Bool) → _≡_ {A = List ℕ} (cond b (over (grantsIn (record { book = bookOfNone; area = area; grants = grants })) grants) grants) grants
     either true = refl
     either false = refl
 
 pub cases-hold : Cases
-unfolding firstFrom first some sumTo largestFrom listFrom listTo word long twoBytes fourBytes bit part padded over trailer rowsDistance recordsDistance stepsDistance nodeCount flowCount sectionsOf field disturbsIn stepIn factsOf said firstStep allSteps stepOf stepsDistanceOf recordsDistanceOf rowsDistanceOf trailerOf used bookOf tableOf emptyTable isDone given givenFirst firstOf on meet conflict conflictsWith conflictFree one countOf worst worstPath matrix interference ceil instances slotsNeeded admissible boundBy bound boundless accepted atStart released instanceAt doneNow unfinished nextStep going greedy granted among nextState runTo grantOf grantsOf stateIn areaOf outside code1 code2 code3 code4 badRow code5 badRecord code6 code7 firstOfPlan repeats goesOn badStep code8 code14 code15Adding code15Removing code9 code13 badPlace code10 code12 overrun code11 bookRules tableRules readAnswer readOf checkRules checkAnswer boundsOf checkOf writeAnswer writeOf recordOf withFlow addAnswer addOf withoutFlow removeAnswer removeOf startAnswer startArea startOf flowsGranted advanceAnswer nextArea grantsIn advanceOf bookA bookB bookOfNone deadlineAt lent grantRoom areaAfter slotOf only noneDisturbs bareRows bare threeByThree noMark noNodes badDistance ownBit noId longerPlan jump tooTight checks starts advances areaWith tableA fullTable adds removes writes withRecords withSteps
+unfolding firstFrom first some sumTo largestFrom listFrom listTo word long twoBytes fourBytes bit part padded over trailer rowsDistance recordsDistance stepsDistance nodeCount flowCount sectionsOf field disturbsIn stepIn factsOf said firstStep allSteps stepOf stepsDistanceOf recordsDistanceOf rowsDistanceOf trailerOf used bookOf tableOf emptyTable isDone given givenFirst firstOf on meet conflict conflictsWith conflictFree one countOf worst worstPath matrix interference ceil instances slotsNeeded admissible boundBy boundlessBy acceptedBy atStart released instanceAt doneNow unfinished nextStep going greedy grantedBy among nextStateBy runBy grantOf grantsOf stateIn areaOf outside code1 code2 code3 code4 badRow code5 badRecord code6 code7 firstOfPlan repeats goesOn badStep code8 code14 code15Adding code15Removing code9By code13 badPlace code10 code12 overrun code11 bookRules tableRules readAnswer readOf checkRulesBy checkAnswerBy boundsBy checkBy writeAnswer writeOf recordOf withFlow addAnswer addOf withoutFlow removeAnswer removeOf startAnswerBy startArea startBy flowsGrantedBy advanceAnswerBy nextAreaBy grantsInBy advanceBy bookA bookB bookOfNone deadlineAt lent grantRoom areaAfter slotOf only noneDisturbs bareRows bare threeByThree noMark noNodes badDistance ownBit noId longerPlan jump tooTight checks starts advances areaWith tableA fullTable adds removes writes withRecords withSteps
 cases-hold =
     record {
       case1 = refl;
@@ -60,6 +61,8 @@ cases-hold =
       other-way = refl;
       tighter-carry = refl;
       later-slot = refl;
+      not-begun = refl;
+      begun = refl;
       order-1-2 = refl;
       order-2-3 = refl;
       order-3-4 = refl;

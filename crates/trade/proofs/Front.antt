@@ -12,9 +12,12 @@ use Rattle.trade.specs.Bytes.{part}
 use Rattle.trade.specs.Layout.{trailer, rowsDistance, recordsDistance, stepsDistance, nodeCount, flowCount, sectionsOf}
 use Rattle.trade.specs.Facts.{Facts, factsOf, said}
 use Rattle.trade.specs.Answers.{noNumber}
+use Rattle.trade.specs.Slot.{State, Releases, Waits}
 use Rattle.trade.specs.Area.{stateIn}
-use Rattle.trade.specs.Codes.{code1, code2, code3, code4, code5, code6, code7, code8, code9, code10, code11, code13}
-use Rattle.trade.specs.Calls.{bookRules, checkRules, readAnswer, checkAnswer, startAnswer, advanceAnswer, readOf, checkOf, startOf, advanceOf, Starting, Advancing, flowsGranted, grantsIn, nextArea}
+use Rattle.trade.specs.Codes.{code1, code2, code3, code4, code5, code6, code7, code8, code13}
+use Rattle.trade.specs.Bound.{Measure, code9By}
+use Rattle.trade.specs.SlotCodes.{code10, code11}
+use Rattle.trade.specs.Calls.{Starting, Advancing, bookRules, readAnswer, readOf, checkRulesBy, checkAnswerBy, checkBy, startAnswerBy, startBy, flowsGrantedBy, advanceAnswerBy, nextAreaBy, grantsInBy, advanceBy}
 use Rattle.trade.proofs.Answers.{Same, same-none, same-more, same-append, same-on, firstOf-same}
 use Rattle.trade.proofs.Whole.{Framed}
 
@@ -81,52 +84,60 @@ module _ (front b : List ℕ) (f : Framed b) where
       (same-more (ap code5 said-front)
       (same-more (ap code6 said-front) (same-more code7-front (same-more (ap code8 said-front) same-none)))))))
 
-  check-front : Same (front ++ b) b checkRules
-  unfolding checkRules
-  check-front = same-append book-front (same-more (ap code9 said-front) same-none)
-
   -- READ
   pub read-front : readOf (front ++ b) ≡ readOf b
   unfolding readOf readAnswer
   read-front = rw (firstOf-same noNumber book-front refl, sections-front)
 
-  -- CHECK
-  pub check-front-same : checkOf (front ++ b) ≡ checkOf b
-  unfolding checkOf checkAnswer
-  check-front-same = rw (firstOf-same noNumber check-front refl, said-front)
+  -- CHECK and START, by any measure
+  module _ (measured : Facts → Measure) where
+    check-front : Same (front ++ b) b (checkRulesBy measured)
+    unfolding checkRulesBy
+    check-front = same-append book-front (same-more (ap (λ (f : Facts). code9By f (measured f)) said-front) same-none)
 
-  -- START
-  start-answer : (area : List ℕ) → startAnswer (record { book = front ++ b; area = area }) ≡ startAnswer (record { book = b; area = area })
-  unfolding startAnswer
-  start-answer area =
-      firstOf-same noNumber (same-append (same-on (λ (s : Starting). s .book) check-front) (same-more refl same-none)) refl
+    pub check-front-same : checkBy measured (front ++ b) ≡ checkBy measured b
+    unfolding checkBy checkAnswerBy
+    check-front-same = rw (firstOf-same noNumber check-front refl, said-front)
 
-  pub start-front : (area : List ℕ) → startOf (record { book = front ++ b; area = area }) ≡ startOf (record { book = b; area = area })
-  unfolding startOf
-  start-front area = rw (start-answer area, said-front)
+    start-answer :
+        (area : List ℕ)
+        → startAnswerBy measured (record { book = front ++ b; area = area }) ≡ startAnswerBy measured (record { book = b; area = area })
+    unfolding startAnswerBy
+    start-answer area =
+        firstOf-same noNumber (same-append (same-on (λ (s : Starting). s .book) check-front) (same-more refl same-none)) refl
 
-  -- ADVANCE
-  granted-front :
-      (area grants : List ℕ)
-      → flowsGranted (record { book = front ++ b; area = area; grants = grants }) ≡ flowsGranted (record { book = b; area = area; grants = grants })
-  unfolding flowsGranted
-  granted-front area grants = rw said-front
+    pub start-front :
+        (area : List ℕ)
+        → startBy measured (record { book = front ++ b; area = area }) ≡ startBy measured (record { book = b; area = area })
+    unfolding startBy
+    start-front area = rw (start-answer area, said-front)
 
-  advance-answer :
-      (area grants : List ℕ)
-      → advanceAnswer (record { book = front ++ b; area = area; grants = grants }) ≡ advanceAnswer (record { book = b; area = area; grants = grants })
-  unfolding advanceAnswer
-  advance-answer area grants =
-      firstOf-same (λ (a : Advancing). length (flowsGranted a))
-      (same-append (same-on (λ (a : Advancing). a .book) book-front)
-      (same-more refl
-      (same-more (ap (λ (f : Facts). code13 (grantBytes * f .flows) grants) said-front)
-      (same-more (ap (λ (f : Facts). code10 f (stateIn area)) said-front)
-      (same-more refl (same-more (ap (λ (f : Facts). code11 f (stateIn area)) said-front) same-none))))))
-      (ap length (granted-front area grants))
+  -- ADVANCE, by any rule of waiting and any releases
+  module _ (waits : Waits) (releases : Facts → State → Releases) (area grants : List ℕ) where
+    -- what an advance of either slice is handed
+    whole : Advancing
+    whole = record { book = front ++ b; area = area; grants = grants }
 
-  pub advance-front :
-      (area grants : List ℕ)
-      → advanceOf (record { book = front ++ b; area = area; grants = grants }) ≡ advanceOf (record { book = b; area = area; grants = grants })
-  unfolding advanceOf nextArea grantsIn
-  advance-front area grants = rw (advance-answer area grants, said-front, granted-front area grants)
+    bare : Advancing
+    bare = record { book = b; area = area; grants = grants }
+
+    granted-front : flowsGrantedBy waits releases whole ≡ flowsGrantedBy waits releases bare
+    unfolding flowsGrantedBy whole bare
+    granted-front = rw said-front
+
+    advance-answer : advanceAnswerBy waits releases whole ≡ advanceAnswerBy waits releases bare
+    unfolding advanceAnswerBy whole bare
+    advance-answer =
+        firstOf-same (λ (a : Advancing). length (flowsGrantedBy waits releases a))
+        (same-append (same-on (λ (a : Advancing). a .book) book-front)
+        (same-more refl
+        (same-more (ap (λ (f : Facts). code13 (grantBytes * f .flows) grants) said-front)
+        (same-more (ap (λ (f : Facts). code10 f (releases f (stateIn area)) (stateIn area)) said-front)
+        (same-more refl (same-more (ap (λ (f : Facts). code11 f (releases f (stateIn area)) (stateIn area)) said-front) same-none))))))
+        (ap length granted-front)
+
+    pub advance-front :
+        advanceBy waits releases (record { book = front ++ b; area = area; grants = grants })
+        ≡ advanceBy waits releases (record { book = b; area = area; grants = grants })
+    unfolding advanceBy nextAreaBy grantsInBy whole bare
+    advance-front = rw (advance-answer, said-front, granted-front)

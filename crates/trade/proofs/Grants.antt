@@ -8,7 +8,7 @@ use lib.ListN.{length, getD, List·getD-append}
 use Rattle.trade.specs.Limits.{grantBytes}
 use Rattle.trade.specs.Bytes.{twoBytes, fourBytes}
 use Rattle.trade.specs.Facts.{Facts}
-use Rattle.trade.specs.Slot.{State, instanceAt, doneNow, nextStep, grantOf, grantsOf}
+use Rattle.trade.specs.Slot.{State, Releases, doneNow, nextStep, grantOf, grantsOf}
 use Rattle.trade.specs.Demands.{grantAt, stepGrant}
 use Rattle.trade.proofs.Bytes.{word-front, long-front, byte-behind, word-behind, long-behind, word-twoBytes, long-fourBytes}
 
@@ -55,31 +55,23 @@ grant-at grant nine (i ∷ is) rest zero h = rw append-assoc (grant-front (grant
 grant-at grant nine (i ∷ is) rest (suc j) h =
     rw append-assoc (grant-behind (grant i) _ j (nine i) ∙ grant-at grant nine is rest j (omega arith))
 
-module _ (f : Facts) (firsts : ℕ → ℕ) (s : State) (i : ℕ) where
-  pub length-grant : length (grantOf f firsts s i) ≡ grantBytes
+module _ (f : Facts) (r : Releases) (s : State) (i : ℕ) where
+  pub length-grant : length (grantOf f r s i) ≡ grantBytes
   unfolding grantOf twoBytes fourBytes
   length-grant = refl
 
   -- a grant says which step of which instance of which flow it is
   pub grant-says :
-      (v : ℕ)
-      → f .id i < 2 ^ 16
-      → v < 2 ^ 32
-      → instanceAt f firsts (s .slot) i ≡ v
-      → grantAt (grantOf f firsts s i) 0 ≡ stepGrant f i v (doneNow f firsts s i)
+      f .id i < 2 ^ 16 → r .instance i < 2 ^ 32 → grantAt (grantOf f r s i) 0 ≡ stepGrant f i (r .instance i) (doneNow r s i)
   unfolding grantAt grantOf stepGrant nextStep twoBytes fourBytes
-  grant-says v id< v< e =
-      let last : List ℕ = doneNow f firsts s i ∷ nextStep f firsts s i .sender .0 ∷ nextStep f firsts s i .receiver .0 ∷ [] in
-      let inst : List ℕ = fourBytes (instanceAt f firsts (s .slot) i) in
+  grant-says id< v< =
+      let last : List ℕ = doneNow r s i ∷ nextStep f r s i .sender .0 ∷ nextStep f r s i .receiver .0 ∷ [] in
+      let inst : List ℕ = fourBytes (r .instance i) in
       λ k.
       record {
         id = word-twoBytes (f .id i) (inst ++ last) id< k;
-        instance =
-            (long-behind (twoBytes (f .id i)) (inst ++ last) 2 0 refl
-            ∙ long-fourBytes (instanceAt f firsts (s .slot) i) last (omega arith)
-            ∙ e)
-            k;
-        step = doneNow f firsts s i;
-        sender = nextStep f firsts s i .sender .0;
-        receiver = nextStep f firsts s i .receiver .0;
+        instance = (long-behind (twoBytes (f .id i)) (inst ++ last) 2 0 refl ∙ long-fourBytes (r .instance i) last v<) k;
+        step = doneNow r s i;
+        sender = nextStep f r s i .sender .0;
+        receiver = nextStep f r s i .receiver .0;
       }

@@ -6,12 +6,13 @@ pub mod Interference
 pub mod Bound
 pub mod Slot
 pub mod Order
-pub mod Bytes
-pub mod Agree
-pub mod Area
-pub mod Grants
 pub mod Answers
 pub mod Valid
+pub mod Alike
+pub mod Prefix
+pub mod Bytes
+pub mod Area
+pub mod Grants
 pub mod Places
 pub mod Used
 pub mod Whole

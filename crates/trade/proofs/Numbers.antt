@@ -1,6 +1,6 @@
 -- The number that goes with an answer of check, start or advance is small enough to be packed for C. Leans on Answers and Valid.
 -- Assumes nothing.
-use Prim.Native.Nat.{ℕ, zero, suc, _+_, _≤_, _<_}
+use Prim.Native.Nat.{ℕ, zero, suc, _≤_, _<_}
 use mathlib.Core.Path.{_≡_}
 use mathlib.Core.Bool.{Bool, true, false, cond, not, _&&_}
 use mathlib.Core.Logic.{_⊎_, inl, inr, ⊎-elim}
@@ -13,10 +13,12 @@ use Rattle.trade.specs.Limits.{mostNodes, mostFlows, mostSteps, packing,
 use Rattle.trade.specs.First.{first, some, sumTo}
 use Rattle.trade.specs.Facts.{Facts, said, firstStep, allSteps}
 use Rattle.trade.specs.Answers.{refused, isDone, given, givenFirst, firstOf, on, noNumber}
-use Rattle.trade.specs.Codes.{outside, code1, code2, code3, code4, code5, code6, code7, code8, code9, code10, code11, code12, code13, badRow, badRecord, badStep, badPlace}
-use Rattle.trade.specs.Slot.{State, Rule, going, granted}
+use Rattle.trade.specs.Codes.{outside, code1, code2, code3, code4, code5, code6, code7, code8, code13, badRow, badRecord, badStep}
+use Rattle.trade.specs.Bound.{Measure, code9By}
+use Rattle.trade.specs.Slot.{State, Rule, going, Waits, Releases, grantedBy}
 use Rattle.trade.specs.Area.{stateIn}
-use Rattle.trade.specs.Calls.{Starting, Advancing, bookRules, checkRules, checkAnswer, startAnswer, advanceAnswer, flowsGranted}
+use Rattle.trade.specs.SlotCodes.{code10, code11, code12, badPlace}
+use Rattle.trade.specs.Calls.{Starting, Advancing, bookRules, checkRulesBy, checkAnswerBy, startAnswerBy, flowsGrantedBy, advanceAnswerBy}
 use Rattle.trade.specs.declared.answer.Answer.{Answer}
 use Rattle.trade.proofs.First.{bool-cases, first-within, or-false}
 use Rattle.trade.proofs.Sums.{sum-most}
@@ -112,34 +114,36 @@ third : (b : List ℕ) → Passed b bookRules → code3 (said b) .code ≡ 0
 unfolding bookRules
 third b p = passed-head (passed-tail (passed-tail p))
 
-check-fits : (b : List ℕ) → Fitting b checkRules
-unfolding checkRules code9
-check-fits b = fits-append (book-fits b) (λ p. fits-more (flows-fit 9 (said b) _ (third b p)) (λ e. fits-none))
+-- CHECK and START, by any measure
+module _ (measured : Facts → Measure) where
+  check-fits : (b : List ℕ) → Fitting b (checkRulesBy measured)
+  unfolding checkRulesBy code9By
+  check-fits b = fits-append (book-fits b) (λ p. fits-more (flows-fit 9 (said b) _ (third b p)) (λ e. fits-none))
 
--- CHECK, START and ADVANCE
-pub check-number : (b : List ℕ) → checkAnswer b .number < packing
-unfolding checkAnswer
-check-number b = firstOf-fits noNumber (check-fits b) (λ p. omega arith)
+  pub check-number : (b : List ℕ) → checkAnswerBy measured b .number < packing
+  unfolding checkAnswerBy
+  check-number b = firstOf-fits noNumber (check-fits b) (λ p. omega arith)
 
-pub start-number : (s : Starting) → startAnswer s .number < packing
-unfolding startAnswer code13
-start-number s =
-    firstOf-fits noNumber
-    (fits-append (fits-on (λ (t : Starting). t .book) (check-fits (s .book))) (λ p. fits-more (zero-fits 13 _) (λ e. fits-none)))
-    (λ p. omega arith)
+  pub start-number : (s : Starting) → startAnswerBy measured s .number < packing
+  unfolding startAnswerBy code13
+  start-number s =
+      firstOf-fits noNumber
+      (fits-append (fits-on (λ (t : Starting). t .book) (check-fits (s .book))) (λ p. fits-more (zero-fits 13 _) (λ e. fits-none)))
+      (λ p. omega arith)
 
+-- ADVANCE, by any rule of waiting and any releases
 passed-off : {A B : Type 0} (look : B → A) {x : B} (rules : List (A → Answer)) → Passed x (on look rules) → Passed (look x) rules
 unfolding on
 passed-off look [] p = passed-none
 passed-off look (rule ∷ rules) p = passed-more (passed-head p) (passed-off look rules (passed-tail p))
 
-area-fits : (f : Facts) (s : State) → code10 f s .number < packing
+area-fits : (f : Facts) (r : Releases) (s : State) → code10 f r s .number < packing
 unfolding code10
-area-fits f s = step (ltb endOfClock (s .slot))
+area-fits f r s = step (ltb endOfClock (s .slot))
   where
-    step : (b : Bool) → cond b (refused 10 0) (givenFirst 10 (badPlace f s) mostFlows) .number < packing
+    step : (b : Bool) → cond b (refused 10 0) (givenFirst 10 (badPlace f r s) mostFlows) .number < packing
     step true = omega arith
-    step false = omega (arith, first-number 10 (badPlace f s) mostFlows)
+    step false = omega (arith, first-number 10 (badPlace f r s) mostFlows)
 
 -- no more flows go than are taken
 pub going-few : (waits : Rule) (work : ℕ → Bool) (k : ℕ) → length (going waits work k) ≤ k
@@ -150,23 +154,24 @@ going-few waits work (suc k) =
     (λ e. rw (going-stays waits work k e) (omega (arith, going-few waits work k)))
     (bool-cases (work k && not (waits (going waits work k) k)))
 
-few-granted : (a : Advancing) → length (flowsGranted a) ≤ said (a .book) .flows
-unfolding flowsGranted granted
-few-granted a = going-few _ _ (said (a .book) .flows)
+module _ (waits : Waits) (releases : Facts → State → Releases) where
+  few-granted : (a : Advancing) → length (flowsGrantedBy waits releases a) ≤ said (a .book) .flows
+  unfolding flowsGrantedBy grantedBy
+  few-granted a = going-few _ _ (said (a .book) .flows)
 
-pub advance-number : (a : Advancing) → advanceAnswer a .number < packing
-unfolding advanceAnswer code12 code13 code11
-advance-number a =
-    firstOf-fits (λ (x : Advancing). length (flowsGranted x))
-    (fits-append (fits-on (λ (x : Advancing). x .book) (book-fits (a .book)))
-    (λ p.
-    let three = third (a .book) (passed-off (λ (x : Advancing). x .book) bookRules p) in
-    fits-more (zero-fits 13 _)
-    (λ e.
-    fits-more (zero-fits 13 _)
-    (λ e'.
-    fits-more (area-fits (said (a .book)) (stateIn (a .area)))
-    (λ e″. fits-more (zero-fits 12 _) (λ e‴. fits-more (flows-fit 11 (said (a .book)) _ three) (λ z. fits-none)))))))
-    (λ p.
-    let three = third (a .book) (passed-off (λ (x : Advancing). x .book) bookRules (passed-first (on (λ (x : Advancing). x .book) bookRules) _ p)) in
-    omega (arith, few-granted a, counted (said (a .book)) three .1))
+  pub advance-number : (a : Advancing) → advanceAnswerBy waits releases a .number < packing
+  unfolding advanceAnswerBy code12 code13 code11
+  advance-number a =
+      firstOf-fits (λ (x : Advancing). length (flowsGrantedBy waits releases x))
+      (fits-append (fits-on (λ (x : Advancing). x .book) (book-fits (a .book)))
+      (λ p.
+      let three = third (a .book) (passed-off (λ (x : Advancing). x .book) bookRules p) in
+      fits-more (zero-fits 13 _)
+      (λ e.
+      fits-more (zero-fits 13 _)
+      (λ e'.
+      fits-more (area-fits (said (a .book)) (releases (said (a .book)) (stateIn (a .area))) (stateIn (a .area)))
+      (λ e″. fits-more (zero-fits 12 _) (λ e‴. fits-more (flows-fit 11 (said (a .book)) _ three) (λ z. fits-none)))))))
+      (λ p.
+      let three = third (a .book) (passed-off (λ (x : Advancing). x .book) bookRules (passed-first (on (λ (x : Advancing). x .book) bookRules) _ p)) in
+      omega (arith, few-granted a, counted (said (a .book)) three .1))

@@ -16,14 +16,15 @@ use Rattle.trade.specs.Layout.{Sections, trailer, rowsDistance, recordsD
 use Rattle.trade.specs.Facts.{Facts, factsOf, said, allSteps}
 use Rattle.trade.specs.Table.{stepsDistanceOf, recordsDistanceOf, rowsDistanceOf, trailerOf, used, bookOf, tableOf}
 use Rattle.trade.specs.Answers.{done, given, isDone, noNumber}
-use Rattle.trade.specs.Codes.{code1, code2, code3, code4, code5, code6, code7, code8, code9}
-use Rattle.trade.specs.Calls.{bookRules, tableRules, checkRules, boundsOf, readAnswer, checkAnswer, readOf, checkOf}
+use Rattle.trade.specs.Codes.{code1, code2, code3, code4, code5, code6, code7, code8}
+use Rattle.trade.specs.Bound.{code9}
+use Rattle.trade.specs.Calls.{bookRules, tableRules, readAnswer, readOf, checkRulesBy, checkRules, checkAnswerBy, boundsOf, checkBy, checkOf}
 use Rattle.trade.specs.declared.answer.Answer.{Answer}
 use Rattle.trade.proofs.First.{and-true}
 use Rattle.trade.proofs.Answers.{Passed, passed-none, passed-more, passed-head, passed-tail, passed-append, passed-done, given-passed, given-false}
 use Rattle.trade.proofs.Valid.{table-valid}
-use Rattle.trade.proofs.Places.{Alike, Placed, table-placed, alike-allSteps, alike-code9, alike-bounds, alike-passed}
-use Rattle.trade.proofs.Used.{same-sections, used-alike, table-alike, table-used, Holds, length-used-rows, length-used-records, length-used-steps, length-trailer, length-book, book-table, roomy}
+use Rattle.trade.proofs.Places.{same-allSteps, alike-passed, alike-code9, alike-bounds}
+use Rattle.trade.proofs.Used.{same-sections, used-same, table-same, table-used, Holds, length-used-rows, length-used-records, length-used-steps, length-trailer, length-book, book-table, roomy}
 use Rattle.trade.proofs.Whole.{passed-framed, passed-steps, book-holds, used-whole, book-parts}
 
 -- a part that stands between two others
@@ -148,7 +149,7 @@ module _ (t : Sections) (h : Holds t) (p : Passed t tableRules) where
   unfolding code7 stepsDistanceOf
   book-code7 =
       let e : stepsDistance (bookOf t) ≡ stepsDistanceOf (sectionsOf (bookOf t))
-      = steps-distance ∙ rw (book-sections, ← alike-allSteps (factsOf t) (factsOf (used t)) (used-alike t)) in
+      = steps-distance ∙ rw (book-sections, ← same-allSteps t (used t) (used-same t)) in
       ap (λ (a : Answer). a .code)
       (given-false 7 (not (eqb (stepsDistance (bookOf t)) (stepsDistanceOf (sectionsOf (bookOf t))))) 0 (rw (eq-eqb _ _ e)))
 
@@ -158,7 +159,7 @@ module _ (t : Sections) (h : Holds t) (p : Passed t tableRules) where
   pub book-passes : Passed (bookOf t) bookRules
   unfolding bookRules tableRules
   book-passes =
-      let p3 = alike-passed t (used t) (used-alike t) p in
+      let p3 = alike-passed t (used t) (used-same t) p in
       let p5 = passed-tail p3 in
       let p6 = passed-tail p5 in
       passed-more book-code1
@@ -181,23 +182,13 @@ pub write-then-check :
     → Passed t tableRules
     → code9 (factsOf t) .code ≡ 0
     → checkOf (bookOf t) ≡ record { answer = done 0; bounds = boundsOf (factsOf t) }
-unfolding checkOf checkAnswer checkRules isDone
-write-then-check t h p e = rw (passed-done noNumber passes, book-said t h p, ← alike-bounds f u a nodes)
+unfolding checkBy checkAnswerBy checkRulesBy isDone
+write-then-check t h p e = rw (passed-done noNumber passes, book-said t h p, ← alike-bounds t (used t) (used-same t) p)
   where
-    f : Facts
-    f = factsOf t
-
-    u : Facts
-    u = factsOf (used t)
-
-    a : Alike f u
-    a = used-alike t
-
-    nodes : Placed f
-    nodes = table-placed t p
-
     passes : Passed (bookOf t) checkRules
-    passes = passed-append (book-passes t h p) (passed-more (book-rule t h p code9 (rw (← alike-code9 f u a nodes) e)) passed-none)
+    passes =
+        passed-append (book-passes t h p)
+        (passed-more (book-rule t h p code9 (rw (← alike-code9 t (used t) (used-same t) p) e)) passed-none)
 
 -- two bytes read as a number are written as those bytes
 twoBytes-word : (l : List ℕ) (at : ℕ) → Bytes l → twoBytes (word l at) ≡ byte l at ∷ byte l (at + 1) ∷ []
@@ -238,7 +229,7 @@ module _ (b : List ℕ) (p : Passed b bookRules) where
       let p3 = passed-tail (passed-tail p) in
       let p5 = passed-tail (passed-tail p3) in
       let p6 = passed-tail p5 in
-      alike-passed (sectionsOf b) (tableOf (sectionsOf b)) (table-alike (sectionsOf b))
+      alike-passed (sectionsOf b) (tableOf (sectionsOf b)) (table-same (sectionsOf b))
       (passed-more (passed-head p3)
       (passed-more (passed-head p5) (passed-more (passed-head p6) (passed-more (passed-head (passed-tail (passed-tail p6))) passed-none))))
 

@@ -1,7 +1,7 @@
 -- One slot. Whatever the rule of waiting, the flows that go are unfinished flows in record order; under the greedy rule no two of
 -- their steps conflict, and an unfinished flow is left out only if it conflicts with a grant of a flow above it. Leans on Conflict.
 -- Assumes nothing.
-use Prim.Native.Nat.{ℕ, zero, suc, _+_, _≤_, _<_}
+use Prim.Native.Nat.{ℕ, zero, suc, _≤_, _<_}
 use mathlib.Core.Path.{_≡_, refl, sym, _∙_, ap}
 use mathlib.Core.Bool.{Bool, true, false, not, _&&_, _||_}
 use mathlib.Core.Logic.{_⊎_, inl, inr, ⊎-elim}
@@ -11,7 +11,7 @@ use lib.Dec.{eqb}
 use borrow.Author.Tests.{eqb-true, eqb-false, eq-eqb, ne-eqb, not-true}
 use Rattle.trade.specs.Facts.{Facts}
 use Rattle.trade.specs.Conflict.{conflict, conflictsWith, conflictFree}
-use Rattle.trade.specs.Slot.{State, Rule, going, greedy, granted, among, unfinished, nextStep}
+use Rattle.trade.specs.Slot.{State, Releases, unfinished, nextStep, Rule, going, Waits, greedy, grantedBy, granted, among}
 use Rattle.trade.specs.declared.node.Transmission.{Transmission}
 use Rattle.trade.proofs.First.{bool-cases, not-both, and-true, or-cases, or-right, lt-or-ge}
 use Rattle.trade.proofs.Conflict.{free-snoc}
@@ -137,34 +137,55 @@ going-free disturbs next waits work refuses (suc k) =
         rw (d, map-append next (going waits work k) (k ∷ [])) (free-snoc disturbs (map next (going waits work k)) (next k) before free)
     step before (inr d) = rw d before
 
--- THE GREEDY RULE. The grants of a slot are conflict-free
-pub grants-free : (f : Facts) (firsts : ℕ → ℕ) (s : State) → conflictFree (f .disturbs) (map (nextStep f firsts s) (granted f firsts s)) ≡ true
-unfolding granted greedy
-grants-free f firsts s =
-    going-free (f .disturbs) (nextStep f firsts s) (greedy f firsts s) (unfinished f firsts s) (λ above i n. n) (f .flows)
+-- a rule of waiting that refuses conflicts: it has a flow wait whose next step conflicts with a grant already made
+abbrev pub Refuses : Waits → Type 0
+Refuses waits =
+    (f : Facts) (r : Releases) (s : State) (above : List ℕ) (i : ℕ)
+    → waits f r s above i ≡ false
+    → conflictsWith (f .disturbs) (map (nextStep f r s) above) (nextStep f r s i) ≡ false
+
+-- under such a rule the grants of a slot are conflict-free
+pub refusing-free :
+    (waits : Waits)
+    → Refuses waits
+    → (f : Facts) (r : Releases) (s : State)
+    → conflictFree (f .disturbs) (map (nextStep f r s) (grantedBy waits f r s)) ≡ true
+unfolding grantedBy
+refusing-free waits refuses f r s =
+    going-free (f .disturbs) (nextStep f r s) (waits f r s) (unfinished f r s) (refuses f r s) (f .flows)
+
+-- THE GREEDY RULE refuses conflicts, so the grants of a slot are conflict-free
+pub greedy-refuses : Refuses greedy
+unfolding greedy
+greedy-refuses f r s above i n = n
+
+pub grants-free :
+    (f : Facts) (r : Releases) (s : State) → conflictFree (f .disturbs) (map (nextStep f r s) (granted f r s)) ≡ true
+grants-free = refusing-free greedy greedy-refuses
 
 -- a flow with work is left out only if it conflicts with a grant of a flow above it
-pub record Blocked (f : Facts) (firsts : ℕ → ℕ) (s : State) (i : ℕ) : Type 0 where
+pub record Blocked (f : Facts) (r : Releases) (s : State) (i : ℕ) : Type 0 where
   pub by : ℕ
   pub above : by < i
-  pub goes : among (granted f firsts s) by ≡ true
-  pub conflicts : conflict (f .disturbs) (nextStep f firsts s by) (nextStep f firsts s i) ≡ true
+  pub goes : among (granted f r s) by ≡ true
+  pub conflicts : conflict (f .disturbs) (nextStep f r s by) (nextStep f r s i) ≡ true
 
 pub left-out-blocked :
-    (f : Facts) (firsts : ℕ → ℕ) (s : State) (i : ℕ)
+    (f : Facts) (r : Releases) (s : State) (i : ℕ)
     → i < f .flows
-    → unfinished f firsts s i ≡ true
-    → among (granted f firsts s) i ≡ false
-    → Blocked f firsts s i
-unfolding granted greedy
-left-out-blocked f firsts s i l w n =
-    let waits : Rule = greedy f firsts s in
-    let work : ℕ → Bool = unfinished f firsts s in
-    let r = conflicts-one (f .disturbs) (nextStep f firsts s) (going waits work i) (nextStep f firsts s i) (left-out waits work (f .flows) i l w n) in
-    let b = going-below waits work i (r .0) (r .1) in
+    → unfinished f r s i ≡ true
+    → among (granted f r s) i ≡ false
+    → Blocked f r s i
+unfolding grantedBy greedy
+left-out-blocked f r s i l w n =
+    let waits : Rule = greedy f r s in
+    let work : ℕ → Bool = unfinished f r s in
+    let (by, goes, conflicts)
+    = conflicts-one (f .disturbs) (nextStep f r s) (going waits work i) (nextStep f r s i) (left-out waits work (f .flows) i l w n) in
+    let (above, busy) = going-below waits work i by goes in
     record {
-      by = r .0;
-      above = b .0;
-      goes = going-stands waits work i (f .flows) (r .0) (b .0) (omega arith) ∙ r .1;
-      conflicts = r .2;
+      by = by;
+      above = above;
+      goes = going-stands waits work i (f .flows) by above (omega arith) ∙ goes;
+      conflicts = conflicts;
     }

@@ -1,7 +1,7 @@
 -- Sums, largest values and lists over indices. Leans on First. Assumes nothing.
 use Prim.Native.Nat.{ℕ, zero, suc, _+_, _*_, _≤_, _<_, max}
 use mathlib.Core.Path.{_≡_, refl, sym, _∙_, ap, ap₂}
-use mathlib.Core.Logic.{_⊎_, ⊎-elim}
+use mathlib.Core.Logic.{⊎-elim}
 use native.Mathlib.Omega.{arith}
 use native.Mathlib.Nat.{zero-add, mul-suc, add-le-add, le-trans, le-max-left, le-max-right, max-le, max-eq-left, max-eq-right}
 use lib.ListN.{length, getD}

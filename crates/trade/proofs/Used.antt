@@ -1,6 +1,6 @@
 -- The used places of a table: the rules and the book read nothing else, and zeros behind them change neither. Leans on Places and
 -- Valid. Assumes nothing.
-use Prim.Native.Nat.{ℕ, _+_, _*_, _/_, _%_, _≤_, _<_}
+use Prim.Native.Nat.{ℕ, _+_, _*_, _≤_, _<_}
 use mathlib.Core.Path.{_≡_, refl, sym, _∙_, ap, ap₂}
 use mathlib.Core.Logic.{⊎-elim}
 use mathlib.Core.List.{List, _++_}
@@ -8,51 +8,20 @@ use native.Mathlib.Omega.{arith}
 use lib.ListN.{length, take, length-append, length-take, List·getD-eq-default}
 use lib.Seq.{length-take-le, take-take, take-at, getD-take, ext-getD}
 use Rattle.trade.specs.Limits.{mostSteps, rowBytes, recordBytes, stepBytes, trailerBytes}
-use Rattle.trade.specs.Bytes.{byte, word, twoBytes, bit, padded}
-use Rattle.trade.specs.Layout.{Sections, field}
-use Rattle.trade.specs.Facts.{disturbsIn, stepIn, factsOf, firstStep, allSteps}
+use Rattle.trade.specs.Bytes.{byte, twoBytes, padded}
+use Rattle.trade.specs.Layout.{Sections}
+use Rattle.trade.specs.Facts.{factsOf, firstStep, allSteps}
 use Rattle.trade.specs.Table.{stepsDistanceOf, recordsDistanceOf, rowsDistanceOf, trailerOf, used, bookOf, rowsRoom, recordsRoom, stepsRoom, InMemory, tableOf}
 use Rattle.trade.proofs.First.{lt-or-ge}
 use Rattle.trade.proofs.Sums.{sum-most}
 use Rattle.trade.proofs.Bytes.{byte-padded, length-padded}
 use Rattle.trade.proofs.Valid.{Valid}
-use Rattle.trade.proofs.Places.{Alike, alike-allSteps}
+use Rattle.trade.proofs.Places.{SameUsed, same-allSteps}
 
--- the same counts, and the same bytes at the used places
-pub record SameUsed (s t : Sections) : Type 0 where
-  pub nodes : s .nodes ≡ t .nodes
-  pub flows : s .flows ≡ t .flows
-  pub rows : (i : ℕ) → i < rowBytes * s .nodes → byte (s .rows) i ≡ byte (t .rows) i
-  pub records : (i : ℕ) → i < recordBytes * s .flows → byte (s .records) i ≡ byte (t .records) i
-  pub steps : (i : ℕ) → i < stepBytes * allSteps (factsOf s) → byte (s .steps) i ≡ byte (t .steps) i
-
--- they say the same there
-module _ (s t : Sections) (same : SameUsed s t) where
-  field-same : (k : ℕ) → k < 5 → (i : ℕ) → i < s .flows → field (s .records) i k ≡ field (t .records) i k
-  unfolding field word
-  field-same k k< i i< =
-      ap₂ (λ (high low : ℕ). high * 256 + low) (same .records (recordBytes * i + 2 * k) (omega arith))
-      (same .records (recordBytes * i + 2 * k + 1) (omega arith))
-
-  pub same-alike : Alike (factsOf s) (factsOf t)
-  unfolding factsOf disturbsIn stepIn
-  same-alike =
-      record {
-        nodes = same .nodes;
-        flows = same .flows;
-        disturbs = λ x y x< y<. ap (λ (b : ℕ). bit b (y % 8)) (same .rows (rowBytes * x + y / 8) (omega arith));
-        id = field-same 0 (omega arith);
-        phase = field-same 1 (omega arith);
-        period = field-same 2 (omega arith);
-        deadline = field-same 3 (omega arith);
-        len = field-same 4 (omega arith);
-        step = λ k k<. rw (same .steps (stepBytes * k) (omega arith), same .steps (stepBytes * k + 1) (omega arith));
-      }
-
-  -- and so the trailer of their books is the same
-  pub alike-trailer : trailerOf s ≡ trailerOf t
-  unfolding trailerOf rowsDistanceOf recordsDistanceOf stepsDistanceOf
-  alike-trailer = rw (alike-allSteps (factsOf s) (factsOf t) same-alike, same .nodes, same .flows)
+-- sections with the same used places have the same trailer
+pub alike-trailer : (s t : Sections) → SameUsed s t → trailerOf s ≡ trailerOf t
+unfolding trailerOf rowsDistanceOf recordsDistanceOf stepsDistanceOf
+alike-trailer s t same = rw (same-allSteps s t same, same .nodes, same .flows)
 
 -- sections that are equal part by part
 pub same-sections :
@@ -70,7 +39,7 @@ take-twice n l = take-take n n l (omega arith)
 
 -- the used places by themselves, and with zeros behind them, say the same
 module _ (s : Sections) where
-  used-same : SameUsed s (used s)
+  pub used-same : SameUsed s (used s)
   unfolding used
   used-same =
       record {
@@ -81,7 +50,7 @@ module _ (s : Sections) where
         steps = λ i h. sym (getD-take _ (s .steps) i 0 h);
       }
 
-  table-same : SameUsed s (tableOf s)
+  pub table-same : SameUsed s (tableOf s)
   unfolding used tableOf
   table-same =
       record {
@@ -92,17 +61,11 @@ module _ (s : Sections) where
         steps = λ i h. sym (byte-padded stepsRoom (used s .steps) i ∙ getD-take _ (s .steps) i 0 h);
       }
 
-  pub used-alike : Alike (factsOf s) (factsOf (used s))
-  used-alike = same-alike s (used s) used-same
-
-  pub table-alike : Alike (factsOf s) (factsOf (tableOf s))
-  table-alike = same-alike s (tableOf s) table-same
-
   used-steps : stepBytes * allSteps (factsOf (used s)) ≡ stepBytes * allSteps (factsOf s)
-  used-steps = ap (λ (k : ℕ). stepBytes * k) (sym (alike-allSteps (factsOf s) (factsOf (used s)) used-alike))
+  used-steps = ap (λ (k : ℕ). stepBytes * k) (sym (same-allSteps s (used s) used-same))
 
   table-steps : stepBytes * allSteps (factsOf (tableOf s)) ≡ stepBytes * allSteps (factsOf s)
-  table-steps = ap (λ (k : ℕ). stepBytes * k) (sym (alike-allSteps (factsOf s) (factsOf (tableOf s)) table-alike))
+  table-steps = ap (λ (k : ℕ). stepBytes * k) (sym (same-allSteps s (tableOf s) table-same))
 
   -- all of the used places are used
   pub used-used : used (used s) ≡ used s

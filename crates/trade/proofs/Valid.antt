@@ -1,5 +1,5 @@
 -- What a book that passes the rules says: its counts and the fields of its records are within their ranges, no two flows have one
--- id, and where check passes it every flow has a bound. Leans on Answers and Bound. Assumes nothing.
+-- id, its steps go between its nodes, and where check passes it every flow has a bound. Leans on Answers and Bound. Assumes nothing.
 use Prim.Native.Nat.{ℕ, _≤_, _<_}
 use mathlib.Core.Path.{_≡_, sym, ap}
 use mathlib.Core.Bool.{false}
@@ -7,14 +7,15 @@ use mathlib.Core.Logic.{⊎-elim}
 use mathlib.Core.List.{List}
 use native.Mathlib.Omega.{arith}
 use lib.Dec.{eqb, ltb}
-use borrow.Author.Tests.{ltb-false, le-ltb, eqb-false}
+use borrow.Author.Tests.{leb-false, ltb-false, le-ltb, eqb-false}
 use Rattle.trade.specs.Limits.{mostNodes, mostFlows, mostId, mostPhase, mostPeriod, mostSteps}
 use Rattle.trade.specs.Layout.{Sections}
-use Rattle.trade.specs.Facts.{Facts, factsOf, said}
-use Rattle.trade.specs.Bound.{Admissible, bound}
-use Rattle.trade.specs.Codes.{outside, badRecord, code3, code6, code9}
-use Rattle.trade.specs.Calls.{bookRules, tableRules, checkRules}
+use Rattle.trade.specs.Facts.{Facts, factsOf, said, allSteps}
+use Rattle.trade.specs.Bound.{Measure, Admissible, boundBy, code9By}
+use Rattle.trade.specs.Codes.{outside, badRecord, badStep, code3, code6, code8}
+use Rattle.trade.specs.Calls.{bookRules, tableRules, checkRulesBy}
 use Rattle.trade.specs.declared.answer.Answer.{Answer}
+use Rattle.trade.specs.declared.node.Transmission.{Transmission}
 use Rattle.trade.proofs.First.{or-false, lt-or-ge, some-false}
 use Rattle.trade.proofs.Answers.{Passed, passed-head, passed-tail, passed-others, given-passed, given-false, givenFirst-passed}
 use Rattle.trade.proofs.Bound.{bound-admissible, boundless-false}
@@ -87,6 +88,29 @@ pub table-valid : (t : Sections) → Passed t tableRules → Valid (factsOf t)
 unfolding tableRules
 table-valid t p = valid (factsOf t) (passed-head p) (passed-head (passed-tail (passed-tail p)))
 
+-- a step that goes from one of the first n nodes to another
+pub record Placed (n : ℕ) (t : Transmission) : Type 0 where
+  pub sender : t .sender .0 < n
+  pub receiver : t .receiver .0 < n
+  pub apart : t .sender .0 ≡ t .receiver .0 → ⊥
+
+-- as every step does where code 8 passes
+pub placed : (f : Facts) → code8 f .code ≡ 0 → (k : ℕ) → k < allSteps f → Placed (f .nodes) (f .step k)
+unfolding code8 badStep
+placed f e k h =
+    let (e₂, joined) = or-false _ _ (givenFirst-passed 7 (badStep f) (allSteps f) e k h) in
+    let (e₁, apart) = or-false _ _ e₂ in
+    let (sender, receiver) = or-false _ _ e₁ in
+    record {
+      sender = leb-false _ _ sender;
+      receiver = leb-false _ _ receiver;
+      apart = eqb-false _ _ apart;
+    }
+
+pub table-placed : (t : Sections) → Passed t tableRules → (k : ℕ) → k < allSteps (factsOf t) → Placed (factsOf t .nodes) (factsOf t .step k)
+unfolding tableRules
+table-placed t p = placed (factsOf t) (passed-head (passed-tail (passed-tail (passed-tail p))))
+
 -- flows of one id are one flow
 pub same-flow : (f : Facts) → Valid f → (i j : ℕ) → i < f .flows → j < f .flows → f .id i ≡ f .id j → i ≡ j
 same-flow f v i j i< j< e =
@@ -103,10 +127,15 @@ book-valid b p =
     let p6 = passed-tail (passed-tail (passed-tail p3)) in
     valid (said b) (passed-head p3) (passed-head p6)
 
--- and where check passes it, each flow's bound is admissible
+-- and where a check passes it by a measure, each flow's bound is admissible
 pub check-bounds :
-    (b : List ℕ) → Passed b checkRules → (l : ℕ) → l < said b .flows → Admissible (said b) (said b .deadline) l (bound (said b) l)
-unfolding checkRules code9 bound
-check-bounds b p l h =
-    bound-admissible (said b) (said b .deadline) l
-    (boundless-false (said b) l (givenFirst-passed 8 _ (said b .flows) (passed-head (passed-others bookRules _ p)) l h))
+    (measured : Facts → Measure) (b : List ℕ)
+    → Passed b (checkRulesBy measured)
+    → (l : ℕ)
+    → l < said b .flows
+    → Admissible (said b) (measured (said b)) l (boundBy (said b) (measured (said b)) l)
+unfolding checkRulesBy code9By
+check-bounds measured b p l h =
+    let μ : Measure = measured (said b) in
+    bound-admissible (said b) μ l
+    (boundless-false (said b) μ l (givenFirst-passed 8 _ (said b .flows) (passed-head (passed-others bookRules _ p)) l h))

@@ -1,11 +1,13 @@
--- The response bound, and acceptance. How long an instance of a flow above may be carried into the window is a parameter of the
--- formula: the deadline, today. Leans on Interference and First.
+-- The response bound, acceptance, and code 9. What the bound of a flow reads of the flows above it is a parameter, the measure: their
+-- interference and their deadlines, today. Leans on Interference, First and Answers.
 use Prim.Native.Nat.{ℕ, suc, _+_, _-_, _*_, _/_, _≤_}
 use mathlib.Core.Bool.{Bool, not, _&&_}
 use lib.Dec.{leb}
 use Rattle.trade.specs.First.{first, some, sumTo}
 use Rattle.trade.specs.Facts.{Facts}
+use Rattle.trade.specs.Answers.{givenFirst}
 use Rattle.trade.specs.Interference.{interference}
+use Rattle.trade.specs.declared.answer.Answer.{Answer}
 
 -- ceil(a / b)
 unfoldable pub ceil : ℕ → ℕ → ℕ
@@ -15,32 +17,57 @@ ceil a b = (a + (b - 1)) / b
 unfoldable pub instances : ℕ → ℕ → ℕ → ℕ
 instances R carry period = ceil (R + carry - 1) period
 
--- the slots that flow l needs within R slots: its own L, and for each flow h above it the instances of h, times I(l,h)
-unfoldable pub slotsNeeded : Facts → (ℕ → ℕ) → ℕ → ℕ → ℕ
-slotsNeeded f carry l R = f .len l + sumTo (λ h. instances R (carry h) (f .period h) * interference f l h) l
+-- a measure of flows: the slots that one instance of h may cost l, and how long an instance of h may be carried into a window
+pub record Measure : Type 0 where
+  pub cost : ℕ → ℕ → ℕ
+  pub carry : ℕ → ℕ
 
--- R is admissible if L ≤ R ≤ D and R is at least that slotsNeeded
-pub record Admissible (f : Facts) (carry : ℕ → ℕ) (l R : ℕ) : Type 0 where
+-- by interference one instance of h costs l at most I(l,h), whatever the carry-in
+abbrev pub byInterference : Facts → (ℕ → ℕ) → Measure
+byInterference f carry = record { cost = interference f; carry = carry }
+
+-- the measure: interference, and an instance may be carried in up to its deadline
+abbrev pub measure : Facts → Measure
+measure f = byInterference f (f .deadline)
+
+-- the slots that flow l needs within R slots: its own L, and for each flow h above it the instances of h, times the cost of one
+unfoldable pub slotsNeeded : Facts → Measure → ℕ → ℕ → ℕ
+slotsNeeded f μ l R = f .len l + sumTo (λ h. instances R (μ .carry h) (f .period h) * μ .cost l h) l
+
+-- R is admissible if L ≤ R ≤ D and R is at least those slots
+pub record Admissible (f : Facts) (μ : Measure) (l R : ℕ) : Type 0 where
   pub plan : f .len l ≤ R
   pub deadline : R ≤ f .deadline l
-  pub enough : slotsNeeded f carry l R ≤ R
+  pub enough : slotsNeeded f μ l R ≤ R
 
 -- the same as a test
-unfoldable pub admissible : Facts → (ℕ → ℕ) → ℕ → ℕ → Bool
-admissible f carry l R = leb (f .len l) R && leb R (f .deadline l) && leb (slotsNeeded f carry l R) R
+unfoldable pub admissible : Facts → Measure → ℕ → ℕ → Bool
+admissible f μ l R = leb (f .len l) R && leb R (f .deadline l) && leb (slotsNeeded f μ l R) R
 
 -- the bound is the smallest admissible R; where there is none, this is D + 1
-unfoldable pub boundBy : Facts → (ℕ → ℕ) → ℕ → ℕ
-boundBy f carry l = first (admissible f carry l) (suc (f .deadline l))
+unfoldable pub boundBy : Facts → Measure → ℕ → ℕ
+boundBy f μ l = first (admissible f μ l) (suc (f .deadline l))
 
--- the carry-in of the flows above is their deadline
-unfoldable pub bound : Facts → ℕ → ℕ
-bound f l = boundBy f (f .deadline) l
+abbrev pub bound : Facts → ℕ → ℕ
+bound f l = boundBy f (measure f) l
 
 -- a flow that has no response bound
-unfoldable pub boundless : Facts → ℕ → Bool
-boundless f l = not (leb (bound f l) (f .deadline l))
+unfoldable pub boundlessBy : Facts → Measure → ℕ → Bool
+boundlessBy f μ l = not (leb (boundBy f μ l) (f .deadline l))
+
+abbrev pub boundless : Facts → ℕ → Bool
+boundless f l = boundlessBy f (measure f) l
 
 -- facts are accepted if every flow has a response bound; with no flows they are
-unfoldable pub accepted : Facts → Bool
-accepted f = not (some (boundless f) (f .flows))
+unfoldable pub acceptedBy : Facts → Measure → Bool
+acceptedBy f μ = not (some (boundlessBy f μ) (f .flows))
+
+abbrev pub accepted : Facts → Bool
+accepted f = acceptedBy f (measure f)
+
+-- 9: a flow has no response bound; the first such flow
+unfoldable pub code9By : Facts → Measure → Answer
+code9By f μ = givenFirst 9 (boundlessBy f μ) (f .flows)
+
+abbrev pub code9 : Facts → Answer
+code9 f = code9By f (measure f)

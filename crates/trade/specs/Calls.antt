@@ -1,6 +1,6 @@
 -- The seven calls: for all that a call is handed, its answer, what it returns beside it, and what it leaves in lent memory, done or
 -- refused. Leans on Codes and all below it.
-use Prim.Native.Nat.{ℕ, suc, pred, _+_, _*_}
+use Prim.Native.Nat.{ℕ, suc, pred, _*_}
 use mathlib.Core.Bool.{cond}
 use mathlib.Core.List.{List, [], _∷_, _++_}
 use lib.ListN.{length, take, drop, replicate}
@@ -11,10 +11,11 @@ use Rattle.trade.specs.Layout.{Sections, sectionsOf}
 use Rattle.trade.specs.Facts.{Facts, factsOf, said, firstStep}
 use Rattle.trade.specs.Table.{used, bookOf, tableOf, emptyTable}
 use Rattle.trade.specs.Answers.{isDone, firstOf, on, noNumber}
-use Rattle.trade.specs.Bound.{bound}
-use Rattle.trade.specs.Slot.{atStart, granted, grantOf, grantsOf, nextState}
+use Rattle.trade.specs.Bound.{Measure, measure, boundBy, code9By, code9}
+use Rattle.trade.specs.Slot.{State, atStart, Releases, releasesOf, Waits, greedy, grantedBy, nextStateBy, grantOf, grantsOf}
 use Rattle.trade.specs.Area.{stateIn, areaOf}
-use Rattle.trade.specs.Codes.{code1, code2, code3, code4, code5, code6, code7, code8, code9, code10, code11, code12, code13, code14, code15Adding, code15Removing}
+use Rattle.trade.specs.Codes.{code1, code2, code3, code4, code5, code6, code7, code8, code13, code14, code15Adding, code15Removing}
+use Rattle.trade.specs.SlotCodes.{code10, code11, code12}
 use Rattle.trade.specs.declared.answer.Answer.{Answer}
 use Rattle.trade.specs.declared.flow.Flow.{Flow}
 
@@ -49,26 +50,39 @@ readOf b =
       table = cond (isDone (readAnswer b)) (tableOf (sectionsOf b)) emptyTable;
     }
 
--- CHECK a book: 1 to 8, 9. The m bounds, zeros elsewhere; refused, all zeros
+-- CHECK a book: 1 to 8, 9. The m bounds, zeros elsewhere; refused, all zeros. How the book's facts are measured is a parameter
 pub record Checked : Type 0 where
   pub answer : Answer
   pub bounds : List ℕ
 
-unfoldable pub checkRules : List (List ℕ → Answer)
-checkRules = bookRules ++ ((λ b. code9 (said b)) ∷ [])
+unfoldable pub checkRulesBy : (Facts → Measure) → List (List ℕ → Answer)
+checkRulesBy measured = bookRules ++ ((λ b. code9By (said b) (measured (said b))) ∷ [])
 
-unfoldable pub checkAnswer : List ℕ → Answer
-checkAnswer b = firstOf checkRules noNumber b
+unfoldable pub checkAnswerBy : (Facts → Measure) → List ℕ → Answer
+checkAnswerBy measured b = firstOf (checkRulesBy measured) noNumber b
 
-unfoldable pub boundsOf : Facts → List ℕ
-boundsOf f = padded mostFlows (listTo (bound f) (f .flows))
+unfoldable pub boundsBy : Facts → Measure → List ℕ
+boundsBy f μ = padded mostFlows (listTo (boundBy f μ) (f .flows))
 
-unfoldable pub checkOf : List ℕ → Checked
-checkOf b =
+unfoldable pub checkBy : (Facts → Measure) → List ℕ → Checked
+checkBy measured b =
     record {
-      answer = checkAnswer b;
-      bounds = cond (isDone (checkAnswer b)) (boundsOf (said b)) (replicate mostFlows 0);
+      answer = checkAnswerBy measured b;
+      bounds = cond (isDone (checkAnswerBy measured b)) (boundsBy (said b) (measured (said b))) (replicate mostFlows 0);
     }
+
+-- by the measure of interference and deadlines
+abbrev pub checkRules : List (List ℕ → Answer)
+checkRules = checkRulesBy measure
+
+abbrev pub checkAnswer : List ℕ → Answer
+checkAnswer = checkAnswerBy measure
+
+abbrev pub boundsOf : Facts → List ℕ
+boundsOf f = boundsBy f (measure f)
+
+abbrev pub checkOf : List ℕ → Checked
+checkOf = checkBy measure
 
 -- WRITE: 3, 5, 6, 8 on the table, then 13. The book at the front of the lent buffer, and nothing beyond it touched; refused, nothing
 -- touched. The number is the book's length
@@ -178,18 +192,25 @@ pub record Started : Type 0 where
   pub answer : Answer
   pub area : List ℕ
 
-unfoldable pub startAnswer : Starting → Answer
-startAnswer = firstOf (on (λ s. s .book) checkRules ++ ((λ s. code13 areaBytes (s .area)) ∷ [])) noNumber
-
 unfoldable pub startArea : Facts → List ℕ
 startArea f = areaOf (f .flows) (atStart f)
 
-unfoldable pub startOf : Starting → Started
-startOf s =
+unfoldable pub startAnswerBy : (Facts → Measure) → Starting → Answer
+startAnswerBy measured = firstOf (on (λ s. s .book) (checkRulesBy measured) ++ ((λ s. code13 areaBytes (s .area)) ∷ [])) noNumber
+
+unfoldable pub startBy : (Facts → Measure) → Starting → Started
+startBy measured s =
     record {
-      answer = startAnswer s;
-      area = cond (isDone (startAnswer s)) (over (startArea (said (s .book))) (s .area)) (s .area);
+      answer = startAnswerBy measured s;
+      area = cond (isDone (startAnswerBy measured s)) (over (startArea (said (s .book))) (s .area)) (s .area);
     }
+
+-- by the measure of interference and deadlines
+abbrev pub startAnswer : Starting → Answer
+startAnswer = startAnswerBy measure
+
+abbrev pub startOf : Starting → Started
+startOf = startBy measure
 
 -- ADVANCE by one slot: 1 to 8, 13, 10, 12, 11. The number is the count of grants; each grant in its own nine bytes of the lent
 -- buffer, later bytes as lent; refused, zero grants and both buffers unchanged
@@ -203,36 +224,54 @@ pub record Advanced : Type 0 where
   pub area : List ℕ
   pub grants : List ℕ
 
--- what the book says, the run that the area holds, and the flows granted in its slot
-unfoldable pub flowsGranted : Advancing → List ℕ
-flowsGranted a = granted (said (a .book)) (said (a .book) .phase) (stateIn (a .area))
+-- the rule of waiting, and how what is due is known from the book and the run that the area holds, are parameters
+module _ (waits : Waits) (releases : Facts → State → Releases) where
+  -- what is due in the slot
+  abbrev dueIn : Advancing → Releases
+  dueIn a = releases (said (a .book)) (stateIn (a .area))
 
-unfoldable pub advanceAnswer : Advancing → Answer
-advanceAnswer =
-    firstOf
-    (on (λ a. a .book) bookRules
-    ++ ((λ a. code13 areaBytes (a .area))
-    ∷ (λ a. code13 (grantBytes * said (a .book) .flows) (a .grants))
-    ∷ (λ a. code10 (said (a .book)) (stateIn (a .area)))
-    ∷ (λ a. code12 (stateIn (a .area)))
-    ∷ (λ a. code11 (said (a .book)) (stateIn (a .area)))
-    ∷ []))
-    (λ a. length (flowsGranted a))
+  -- the flows granted in it
+  unfoldable pub flowsGrantedBy : Advancing → List ℕ
+  flowsGrantedBy a = grantedBy waits (said (a .book)) (dueIn a) (stateIn (a .area))
 
-unfoldable pub nextArea : Advancing → List ℕ
-nextArea a =
-    let f : Facts = said (a .book) in
-    areaOf (f .flows) (nextState f (f .phase) (stateIn (a .area)))
+  unfoldable pub advanceAnswerBy : Advancing → Answer
+  advanceAnswerBy =
+      firstOf
+      (on (λ a. a .book) bookRules
+      ++ ((λ a. code13 areaBytes (a .area))
+      ∷ (λ a. code13 (grantBytes * said (a .book) .flows) (a .grants))
+      ∷ (λ a. code10 (said (a .book)) (dueIn a) (stateIn (a .area)))
+      ∷ (λ a. code12 (stateIn (a .area)))
+      ∷ (λ a. code11 (said (a .book)) (dueIn a) (stateIn (a .area)))
+      ∷ []))
+      (λ a. length (flowsGrantedBy a))
 
-unfoldable pub grantsIn : Advancing → List ℕ
-grantsIn a =
-    let f : Facts = said (a .book) in
-    grantsOf (grantOf f (f .phase) (stateIn (a .area))) (flowsGranted a)
+  unfoldable pub nextAreaBy : Advancing → List ℕ
+  nextAreaBy a = areaOf (said (a .book) .flows) (nextStateBy waits (said (a .book)) (dueIn a) (stateIn (a .area)))
 
-unfoldable pub advanceOf : Advancing → Advanced
-advanceOf a =
-    record {
-      answer = advanceAnswer a;
-      area = cond (isDone (advanceAnswer a)) (over (nextArea a) (a .area)) (a .area);
-      grants = cond (isDone (advanceAnswer a)) (over (grantsIn a) (a .grants)) (a .grants);
-    }
+  unfoldable pub grantsInBy : Advancing → List ℕ
+  grantsInBy a = grantsOf (grantOf (said (a .book)) (dueIn a) (stateIn (a .area))) (flowsGrantedBy a)
+
+  unfoldable pub advanceBy : Advancing → Advanced
+  advanceBy a =
+      record {
+        answer = advanceAnswerBy a;
+        area = cond (isDone (advanceAnswerBy a)) (over (nextAreaBy a) (a .area)) (a .area);
+        grants = cond (isDone (advanceAnswerBy a)) (over (grantsInBy a) (a .grants)) (a .grants);
+      }
+
+-- by the greedy rule, the first releases being the phases
+abbrev pub flowsGranted : Advancing → List ℕ
+flowsGranted = flowsGrantedBy greedy releasesOf
+
+abbrev pub advanceAnswer : Advancing → Answer
+advanceAnswer = advanceAnswerBy greedy releasesOf
+
+abbrev pub nextArea : Advancing → List ℕ
+nextArea = nextAreaBy greedy releasesOf
+
+abbrev pub grantsIn : Advancing → List ℕ
+grantsIn = grantsInBy greedy releasesOf
+
+abbrev pub advanceOf : Advancing → Advanced
+advanceOf = advanceBy greedy releasesOf

@@ -238,6 +238,9 @@ pub record Cases : Type 0 where
   pub tighter-carry : checkOf (deadlineAt deadlineOf7 6 bookA) .bounds ≡ 3 ∷ 5 ∷ replicate 30 0
   -- book B goes in slot 5 and book A's second instance in slot 10, with its number
   pub later-slot : take grantBytes (slotOf bookA 10 .grants) ≡ 0 ∷ 7 ∷ 0 ∷ 0 ∷ 0 ∷ 1 ∷ 0 ∷ 0 ∷ 1 ∷ []
+  -- a flow that was not released before the slot is idle: of an area in which flow 9 has one step left, slot 0 is refused, slot 1 is not
+  pub not-begun : advances (areaWith 0 3 2 0) 18 ≡ refused 10 1
+  pub begun : advances (areaWith 1 3 2 0) 18 ≡ done 1
   -- books with two faults each: the code that is tested first is given, with its number
   pub order-1-2 : checks (drop 81 (noMark bookA)) ≡ refused 1 0
   pub order-2-3 : checks (noMark (noNodes bookA)) ≡ refused 2 0

@@ -1,18 +1,17 @@
--- Codes 1 to 15: when each is given, and with which number. Leans on Layout, Facts, Table, Answers, Bound and Slot.
+-- Codes 1 to 8, 14, 15 and 13: when each is given, and with which number. Code 9 stands with the bound, 10 to 12 behind the slot. Leans on
+-- Layout, Facts, Table and Answers.
 use Prim.Native.Nat.{ℕ, _+_, _-_, _*_, _%_}
-use mathlib.Core.Bool.{Bool, cond, not, _&&_, _||_}
+use mathlib.Core.Bool.{Bool, not, _&&_, _||_}
 use mathlib.Core.List.{List}
 use lib.Dec.{eqb, leb, ltb}
 use lib.ListN.{length}
-use Rattle.trade.specs.Limits.{mostNodes, mostFlows, mostSteps, mostId, mostPhase, mostPeriod, endOfClock, rowBytes, recordBytes, trailerBytes, mark}
+use Rattle.trade.specs.Limits.{mostNodes, mostFlows, mostSteps, mostId, mostPhase, mostPeriod, rowBytes, recordBytes, trailerBytes, mark}
 use Rattle.trade.specs.First.{some}
 use Rattle.trade.specs.Bytes.{byte}
 use Rattle.trade.specs.Layout.{trailer, rowsDistance, recordsDistance, stepsDistance, nodeCount, flowCount, sectionsOf}
 use Rattle.trade.specs.Table.{stepsDistanceOf}
 use Rattle.trade.specs.Facts.{Facts, firstStep, allSteps}
-use Rattle.trade.specs.Answers.{refused, given, givenFirst}
-use Rattle.trade.specs.Bound.{boundless}
-use Rattle.trade.specs.Slot.{State, released}
+use Rattle.trade.specs.Answers.{given, givenFirst}
 use Rattle.trade.specs.declared.answer.Answer.{Answer}
 use Rattle.trade.specs.declared.node.Transmission.{Transmission}
 
@@ -102,32 +101,6 @@ code15Adding f place = given 15 (ltb (f .flows) place) 0
 unfoldable pub code15Removing : Facts → ℕ → Answer
 code15Removing f place = given 15 (leb (f .flows) place) 0
 
--- 9: a flow has no response bound; the first such flow
-unfoldable pub code9 : Facts → Answer
-code9 f = givenFirst 9 (boundless f) (f .flows)
-
 -- 13: lent memory too short: a buffer under what the call needs of it
 unfoldable pub code13 : ℕ → List ℕ → Answer
 code13 needed memory = given 13 (ltb (length memory) needed) 0
-
--- 10: run area malformed: the slot exceeds 4,000,000,000, reported as 0 ahead of a bad place; or, at the first bad flow place, a byte
--- exceeds its L, an unused byte is not 0, or a flow whose phase is not before the slot has a byte other than its L
-unfoldable pub badPlace : Facts → State → ℕ → Bool
-badPlace f s i =
-    cond (ltb i (f .flows))
-    (ltb (f .len i) (s .done i) || leb (s .slot) (f .phase i) && not (eqb (s .done i) (f .len i)))
-    (not (eqb (s .done i) 0))
-
-unfoldable pub code10 : Facts → State → Answer
-code10 f s = cond (ltb endOfClock (s .slot)) (refused 10 0) (givenFirst 10 (badPlace f s) mostFlows)
-
--- 12: the run area's slot is 4,000,000,000
-unfoldable pub code12 : State → Answer
-code12 s = given 12 (eqb (s .slot) endOfClock) 0
-
--- 11: a release falls due while the flow's last instance is unfinished; the first such flow
-unfoldable pub overrun : Facts → State → ℕ → Bool
-overrun f s i = released f (f .phase) (s .slot) i && ltb (s .done i) (f .len i)
-
-unfoldable pub code11 : Facts → State → Answer
-code11 f s = givenFirst 11 (overrun f s) (f .flows)

@@ -12,8 +12,9 @@ use Rattle.trade.specs.Facts.{Facts, said, stepOf}
 use Rattle.trade.specs.Table.{InMemory, bookOf, tableOf, emptyTable}
 use Rattle.trade.specs.Answers.{done, refused}
 use Rattle.trade.specs.Conflict.{conflict}
-use Rattle.trade.specs.Bound.{Admissible}
-use Rattle.trade.specs.Calls.{Got, Checked, Writing, Written, Adding, Removing, Changed, Starting, Started, Advancing, Advanced, readAnswer, checkAnswer, writeAnswer, addAnswer, removeAnswer, startAnswer, advanceAnswer, withFlow, withoutFlow, startArea, flowsGranted, grantsIn, nextArea, readOf, checkOf, writeOf, addOf, removeOf, startOf, advanceOf}
+use Rattle.trade.specs.Bound.{Measure, measure, Admissible}
+use Rattle.trade.specs.Slot.{releasesOf, Waits, greedy}
+use Rattle.trade.specs.Calls.{Got, Checked, Writing, Written, Adding, Removing, Changed, Starting, Started, Advancing, Advanced, readAnswer, checkAnswer, writeAnswer, addAnswer, removeAnswer, startAnswer, advanceAnswer, withFlow, withoutFlow, startArea, flowsGranted, grantsIn, nextArea, readOf, checkBy, writeOf, addOf, removeOf, startBy, advanceBy}
 use Rattle.trade.specs.declared.answer.Answer.{Answer}
 use Rattle.trade.specs.declared.node.Transmission.{Transmission}
 
@@ -27,18 +28,22 @@ pub record Program : Type 0 where
   pub start : Starting → Started
   pub advance : Advancing → Advanced
 
--- the program that the definitions describe; the contracts say that ours is this one
-unfoldable pub planner : Program
-planner =
+-- the program that the definitions describe, by a measure and a rule of waiting
+abbrev pub plannerBy : (Facts → Measure) → Waits → Program
+plannerBy measured waits =
     record {
       read = readOf;
-      check = checkOf;
+      check = checkBy measured;
       write = writeOf;
       add = addOf;
       remove = removeOf;
-      start = startOf;
-      advance = advanceOf;
+      start = startBy measured;
+      advance = advanceBy waits releasesOf;
     }
+
+-- the planner; the contracts say that ours is this one
+abbrev pub planner : Program
+planner = plannerBy measure greedy
 
 -- a call is done, or it is refused
 abbrev pub Done : Answer → Type 0
@@ -66,9 +71,36 @@ pub record Demand1 (p : Program) : Type 0 where
   pub advance-refused :
       (a : Advancing) → Refused (p .advance a .answer) → (p .advance a .area ≡ a .area) × (p .advance a .grants ≡ a .grants)
 
--- the bound that check reports for flow l
+-- the bound that a check reports for flow l
+abbrev pub reportedBy : (List ℕ → Checked) → List ℕ → ℕ → ℕ
+reportedBy check b l = getD (check b .bounds) l 0
+
 abbrev pub reported : Program → List ℕ → ℕ → ℕ
-reported p b l = getD (p .check b .bounds) l 0
+reported p = reportedBy (p .check)
+
+-- a check decides by a measure: a well-formed table is accepted exactly when every flow has a response bound within its deadline; the
+-- bounds reported are the smallest, zeros elsewhere
+pub record Decides (measured : Facts → Measure) (check : List ℕ → Checked) : Type 0 where
+  pub accepts :
+      (b : List ℕ)
+      → Done (readAnswer b)
+      → Done (check b .answer) ↔ ((l : ℕ) → l < said b .flows → (R : ℕ) × Admissible (said b) (measured (said b)) l R)
+  pub bounded :
+      (b : List ℕ)
+      → Done (check b .answer)
+      → (l : ℕ)
+      → l < said b .flows
+      → Admissible (said b) (measured (said b)) l (reportedBy check b l)
+  pub smallest :
+      (b : List ℕ)
+      → Done (check b .answer)
+      → (l : ℕ)
+      → l < said b .flows
+      → (R : ℕ)
+      → Admissible (said b) (measured (said b)) l R
+      → reportedBy check b l ≤ R
+  pub elsewhere : (b : List ℕ) → Done (check b .answer) → (l : ℕ) → said b .flows ≤ l → reportedBy check b l ≡ 0
+  pub places : (b : List ℕ) → length (check b .bounds) ≡ mostFlows
 
 -- DEMAND 2. Books are read and written exactly by the layout; conflict, interference and the greedy choice are those of the
 -- definitions; a well-formed table is accepted exactly when every flow has a response bound within its deadline, and the bound
@@ -93,26 +125,7 @@ pub record Demand2 (p : Program) : Type 0 where
       → length b ≤ length buffer
       → p .write (record { table = p .read b .table; buffer = buffer }) ≡ record { answer = done (length b); buffer = over b buffer }
   -- accepted exactly when every flow has a response bound within its deadline; the bounds reported are the smallest, zeros elsewhere
-  pub accepts :
-      (b : List ℕ)
-      → Done (readAnswer b)
-      → Done (p .check b .answer) ↔ ((l : ℕ) → l < said b .flows → (R : ℕ) × Admissible (said b) (said b .deadline) l R)
-  pub bounded :
-      (b : List ℕ)
-      → Done (p .check b .answer)
-      → (l : ℕ)
-      → l < said b .flows
-      → Admissible (said b) (said b .deadline) l (reported p b l)
-  pub smallest :
-      (b : List ℕ)
-      → Done (p .check b .answer)
-      → (l : ℕ)
-      → l < said b .flows
-      → (R : ℕ)
-      → Admissible (said b) (said b .deadline) l R
-      → reported p b l ≤ R
-  pub elsewhere : (b : List ℕ) → Done (p .check b .answer) → (l : ℕ) → said b .flows ≤ l → reported p b l ≡ 0
-  pub places : (b : List ℕ) → length (p .check b .bounds) ≡ mostFlows
+  pub decides : Decides measure (p .check)
   -- a flow enters at its place, or is taken out, and nothing else changes; unused places are zero
   pub adds : (a : Adding) → Done (addAnswer a) → p .add a .table ≡ tableOf (withFlow a)
   pub removes : (r : Removing) → Done (removeAnswer r) → p .remove r .table ≡ tableOf (withoutFlow r)

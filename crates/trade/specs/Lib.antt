@@ -7,7 +7,7 @@ pub mod Bytes
 pub mod Layout
 pub mod Facts
 pub mod Table
--- Codes, in the order they are tested. (They lean on what stands below.)
+-- Codes, in the order they are tested; 9 stands with the response bound, and 10 to 12 behind the slot.
 pub mod Answers
 pub mod Codes
 -- Conflict and interference. The response bound. One slot.
@@ -16,6 +16,7 @@ pub mod Interference
 pub mod Bound
 pub mod Slot
 pub mod Area
+pub mod SlotCodes
 pub mod Run
 -- The calls, the demands, and the proved cases.
 pub mod Calls

@@ -1,7 +1,8 @@
 -- `radio::slot_advance` meets its contract: it packs the answer of advance, whose number fits, and hands on the area and the grants.
 -- Assumes nothing.
 use borrow.Author.Needs.{needs}
-use Rattle.trade.specs.Calls.{advanceOf}
+use Rattle.trade.specs.Calls.{advanceBy}
+use Rattle.trade.specs.Slot.{releasesOf, greedy}
 use Rattle.trade.proofs.Numbers.{advance-number}
 use Rattle.radio.proofs.Packing.{fits, packs}
 use Rattle.radio.proofs.slot_advance.Statement.{statement}
@@ -11,8 +12,8 @@ advance-requires : tie.Need-advance-requires
 advance-requires c κs = search needs
 
 packed-requires : tie.Need-packed-requires
-unfolding advanceOf
-packed-requires c κs = fits (c .before .before .before .before .advance .ensures .answer) (advance-number _)
+unfolding advanceBy
+packed-requires c κs = fits (c .before .before .before .before .advance .ensures .answer) (advance-number greedy releasesOf _)
 
 same-length : tie.Need-same-length
 same-length c = search needs

@@ -1,6 +1,7 @@
 -- `radio::slot_check` meets its contract: it packs the answer of check, whose number fits. Assumes nothing.
 use borrow.Author.Needs.{needs}
-use Rattle.trade.specs.Calls.{checkOf}
+use Rattle.trade.specs.Calls.{checkBy}
+use Rattle.trade.specs.Bound.{measure}
 use Rattle.trade.proofs.Numbers.{check-number}
 use Rattle.radio.proofs.Packing.{fits, packs}
 use Rattle.radio.proofs.slot_check.Statement.{statement}
@@ -10,8 +11,8 @@ check-requires : tie.Need-check-requires
 check-requires c κs = search needs
 
 packed-requires : tie.Need-packed-requires
-unfolding checkOf
-packed-requires c κs = fits (c .before .check .ensures .answer) (check-number _)
+unfolding checkBy
+packed-requires c κs = fits (c .before .check .ensures .answer) (check-number measure _)
 
 returns : tie.Need-returns
 returns c = record { answer = packs (c .packed .ensures) (c .before .before .check .ensures .answer) }

@@ -1,6 +1,7 @@
 -- `radio::slot_start` meets its contract: it packs the answer of start, whose number fits, and hands on the area. Assumes nothing.
 use borrow.Author.Needs.{needs}
-use Rattle.trade.specs.Calls.{startOf}
+use Rattle.trade.specs.Calls.{startBy}
+use Rattle.trade.specs.Bound.{measure}
 use Rattle.trade.proofs.Numbers.{start-number}
 use Rattle.radio.proofs.Packing.{fits, packs}
 use Rattle.radio.proofs.slot_start.Statement.{statement}
@@ -10,8 +11,8 @@ start-requires : tie.Need-start-requires
 start-requires c κs = search needs
 
 packed-requires : tie.Need-packed-requires
-unfolding startOf
-packed-requires c κs = fits (c .before .before .start .ensures .answer) (start-number _)
+unfolding startBy
+packed-requires c κs = fits (c .before .before .start .ensures .answer) (start-number measure _)
 
 same-length : tie.Need-same-length
 same-length c = search needs

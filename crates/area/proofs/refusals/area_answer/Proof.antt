@@ -1,8 +1,8 @@
--- `run::refusals::area_answer`: no place passed is bad. Assumes nothing.
+-- `area::refusals::area_answer` no place passed is bad. The measure is how many are left. Assumes nothing.
 use Prim.Native.Nat.{ℕ, _-_, _≤_, _<_}
 use mathlib.Core.Path.{_≡_, sym, _∙_}
-use mathlib.Core.Bool.{false}
-use mathlib.Core.List.{[]}
+use mathlib.Core.Bool.{false, Bool}
+use mathlib.Core.List.{List, []}
 use native.Mathlib.Omega.{arith}
 use denote.Ref.{now}
 use borrow.Author.Needs.{needs}
@@ -10,29 +10,37 @@ use borrow.Author.Count.{below-more}
 use Rattle.trade.specs.Limits.{mostFlows, endOfClock}
 use Rattle.trade.specs.Facts.{factsIn}
 use Rattle.trade.specs.Answers.{done, refused}
-use Rattle.trade.specs.Codes.{badPlace}
+use Rattle.trade.specs.SlotCodes.{badPlace}
 use Rattle.slot.specs.States.{stateOf}
 use Rattle.area.proofs.RefusalsLaws.{code10-late, code10-at, code10-none, place-shown}
+use Rattle.trade.specs.declared.clock.Slot.{Slot}
+use Rattle.trade.specs.declared.state.Run.{Run}
+use Rattle.area.specs.Dues.{dueBy}
 use Rattle.area.proofs.refusals.area_answer.Statement.{statement}
 use Rattle.area.proofs.refusals.area_answer.Tie as tie
 
+-- a place of a run is bad
+abbrev bad : ℕ → List ℕ → List Slot → Run → ℕ → Bool
+bad flows records firsts run k =
+    badPlace (factsIn 0 flows [] records []) (dueBy (factsIn 0 flows [] records []) firsts run) (stateOf run) k
+
 abbrev Inv-loop : tie.InvT-loop
-Inv-loop flows records slot places i₀ i =
+Inv-loop flows records firsts slot places i₀ i =
     (i ≤ mostFlows)
     × (slot .0 ≤ endOfClock)
-    × ((k : ℕ) → k < i → badPlace (factsIn 0 flows [] records []) (stateOf (record { slot = slot; flows = places })) k ≡ false)
+    × ((k : ℕ) → k < i → bad flows records firsts (record { slot = slot; flows = places }) k ≡ false)
 
 abbrev μ-loop : tie.MeasureT-loop
-μ-loop flows records slot places i₀ i = mostFlows - i
+μ-loop flows records firsts slot places i₀ i = mostFlows - i
 
 -- what is asked of a place is whether it is bad
 asked :
     (c : tie.After-is-bad-place Inv-loop μ-loop)
     → c .is-bad-place .result
-    ≡ badPlace (factsIn 0 (c .before .before .before .before .before .before .before .before .before .args .flows) [] (now (c .before .before .before .before .before .before .before .before .before .args .records)) []) (stateOf (c .before .before .before .before .before .before .before .before .before .args .run)) (c .before .before .before .loop .i)
+    ≡ bad (c .before .before .before .before .before .before .before .before .before .before .args .flows) (now (c .before .before .before .before .before .before .before .before .before .before .args .records)) (c .before .before .before .before .before .before .before .before .before .before .args .t3) (c .before .before .before .before .before .before .before .before .before .before .args .run) (c .before .before .before .before .loop .i)
 asked c =
-    let a = c .before .before .before .before .before .before .before .before .before .args in
-    c .is-bad-place .ensures ∙ place-shown (a .flows) (now (a .records)) (a .run) (c .before .before .before .loop .i)
+    let a = c .before .before .before .before .before .before .before .before .before .before .args in
+    c .is-bad-place .ensures ∙ place-shown (a .flows) (now (a .records)) (a .t3) (a .run) (c .before .before .before .before .loop .i)
 
 refused-requires : tie.Need-refused-requires Inv-loop μ-loop
 refused-requires c κs = search needs
@@ -41,13 +49,19 @@ returns : tie.Need-returns Inv-loop μ-loop
 unfolding stateOf
 returns c =
     let a = c .before .before .before .before .before .args in
-    c .refused .ensures ∙ sym (code10-late (factsIn 0 (a .flows) [] (now (a .records)) []) (stateOf (a .run)) (c .before .if1 .taken))
+    c .refused .ensures ∙ sym (code10-late (factsIn 0 (a .flows) [] (now (a .records)) []) (dueBy (factsIn 0 (a .flows) [] (now (a .records)) []) (a .t3) (a .run)) (stateOf (a .run)) (c .before .if1 .taken))
 
 loop-holds : tie.Need-loop-holds Inv-loop μ-loop
 loop-holds c = (omega arith, omega arith, λ k h. absurd (omega arith))
 
+mul-is-bad-place : tie.Need-mul-is-bad-place Inv-loop μ-loop
+mul-is-bad-place c = search needs
+
 array-copy-out-is-bad-place : tie.Need-array-copy-out-is-bad-place Inv-loop μ-loop
 array-copy-out-is-bad-place c = search needs
+
+array-copy-out-is-bad-place-2 : tie.Need-array-copy-out-is-bad-place-2 Inv-loop μ-loop
+array-copy-out-is-bad-place-2 c = search needs
 
 is-bad-place-requires : tie.Need-is-bad-place-requires Inv-loop μ-loop
 is-bad-place-requires c κs = search needs
@@ -58,10 +72,10 @@ refused-requires-2 c κs = search needs
 returns-2 : tie.Need-returns-2 Inv-loop μ-loop
 unfolding stateOf
 returns-2 c =
-    let a = c .before .before .before .before .before .before .before .before .before .before .before .args in
-    let loop = c .before .before .before .before .before .loop in
+    let a = c .before .before .before .before .before .before .before .before .before .before .before .before .args in
+    let loop = c .before .before .before .before .before .before .loop in
     c .refused2 .ensures
-    ∙ sym (code10-at (factsIn 0 (a .flows) [] (now (a .records)) []) (stateOf (a .run)) (loop .i) (loop .inv .1) (omega arith) (loop .inv .2) (sym (asked (c .before .before)) ∙ c .before .if2 .taken))
+    ∙ sym (code10-at (factsIn 0 (a .flows) [] (now (a .records)) []) (dueBy (factsIn 0 (a .flows) [] (now (a .records)) []) (a .t3) (a .run)) (stateOf (a .run)) (loop .i) (loop .inv .1) (omega arith) (loop .inv .2) (sym (asked (c .before .before)) ∙ c .before .if2 .taken))
 
 add-i : tie.Need-add-i Inv-loop μ-loop
 add-i c = search needs
@@ -71,7 +85,7 @@ loop-less c = search needs
 
 loop-again : tie.Need-loop-again Inv-loop μ-loop
 loop-again c =
-    let loop = c .before .before .before .before .loop in
+    let loop = c .before .before .before .before .before .loop in
     (omega arith, loop .inv .1, below-more _ _ (loop .inv .2) (sym (asked (c .before)) ∙ c .if2 .left))
 
 done-requires : tie.Need-done-requires Inv-loop μ-loop
@@ -82,7 +96,7 @@ unfolding stateOf
 returns-3 c =
     let a = c .before .before .before .before .before .before .before .before .args in
     let loop = c .before .before .loop in
-    c .done .ensures ∙ sym (code10-none (factsIn 0 (a .flows) [] (now (a .records)) []) (stateOf (a .run)) (loop .inv .1) (λ k h. loop .inv .2 k (omega arith)))
+    c .done .ensures ∙ sym (code10-none (factsIn 0 (a .flows) [] (now (a .records)) []) (dueBy (factsIn 0 (a .flows) [] (now (a .records)) []) (a .t3) (a .run)) (stateOf (a .run)) (loop .inv .1) (λ k h. loop .inv .2 k (omega arith)))
 
 pub area-answer-spec : {M : Type 1} → statement M
 area-answer-spec =
@@ -93,7 +107,9 @@ area-answer-spec =
     refused-requires
     returns
     loop-holds
+    mul-is-bad-place
     array-copy-out-is-bad-place
+    array-copy-out-is-bad-place-2
     is-bad-place-requires
     refused-requires-2
     returns-2

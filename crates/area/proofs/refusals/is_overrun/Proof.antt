@@ -1,4 +1,4 @@
--- `run::refusals::is_overrun` counts releases from the phase. Assumes nothing.
+-- `area::refusals::is_overrun` asks for a release and for steps left. Assumes nothing.
 use mathlib.Core.Path.{ap}
 use mathlib.Core.Bool.{Bool, _&&_}
 use lib.Dec.{ltb}
@@ -6,9 +6,6 @@ use Rattle.area.specs.Refusals.{overrunAt}
 use borrow.Author.Needs.{needs}
 use Rattle.area.proofs.refusals.is_overrun.Statement.{statement}
 use Rattle.area.proofs.refusals.is_overrun.Tie as tie
-
-cast-t5 : tie.Need-cast-t5
-cast-t5 c = search needs
 
 is-released-requires : tie.Need-is-released-requires
 is-released-requires c κs = search needs
@@ -19,8 +16,8 @@ cast-result c = search needs
 returns : tie.Need-returns
 unfolding overrunAt
 returns c =
-    let a = c .before .before .before .before .args in
+    let a = c .before .before .before .args in
     ap (λ (b : Bool). b && ltb (a .p .done .0) (a .flow .len)) (c .before .before .is-released .ensures)
 
 pub is-overrun-spec : {M : Type 1} → statement M
-is-overrun-spec = tie.close (tie.spec cast-t5 is-released-requires cast-result returns)
+is-overrun-spec = tie.close (tie.spec is-released-requires cast-result returns)

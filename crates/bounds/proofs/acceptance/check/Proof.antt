@@ -1,4 +1,4 @@
--- `admission::acceptance::check` meets its contract: what reading refuses is refused, and else the bounds decide. Assumes nothing.
+-- `bounds::acceptance::check` meets its contract: what reading refuses is refused, and else the bounds decide. Assumes nothing.
 use borrow.Author.Needs.{needs}
 use Prim.Native.Nat.{ℕ}
 use mathlib.Core.Path.{_≡_, _∙_, ap}

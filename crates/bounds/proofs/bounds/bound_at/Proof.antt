@@ -1,4 +1,4 @@
--- `admission::bounds::bound_at` meets its contract: the three arrays say what the facts do. Assumes nothing.
+-- `bounds::bounds::bound_at` meets its contract: the three arrays say what the facts do. Assumes nothing.
 use borrow.Author.Needs.{needs}
 use Prim.Native.Nat.{ℕ, _<_}
 use mathlib.Core.Path.{_≡_, refl, _∙_, ap, ap₂}
@@ -8,6 +8,7 @@ use lib.ListN.{getD}
 use native.Mathlib.Omega.{arith}
 use Rattle.trade.specs.Limits.{mostFlows}
 use Rattle.trade.specs.Facts.{Facts, factsIn, factsOf, flowIn}
+use Rattle.trade.specs.Bound.{byInterference}
 use Rattle.trade.specs.Interference.{interference}
 use Rattle.trade.specs.declared.flow.Flow.{Flow}
 use Rattle.bounds.specs.Terms.{neededIn, smallestIn}
@@ -81,7 +82,7 @@ returns c =
     c .smallest .ensures
     ∙ ap₂ (λ (own last : ℕ). smallestIn (neededIn own (a .l) figures (now (a .periods)) (now (a .carries))) own last)
     (ap (λ (w : Flow). w .len) w) (ap (λ (w : Flow). w .deadline) w)
-    ∙ bound-in f (λ h. getD (now (a .carries)) h 0) (a .l) figures (now (a .periods)) (now (a .carries)) (figure (c .before .before .before .before)) (s .pre .1 .1 .0)
+    ∙ bound-in f (byInterference f (λ h. getD (now (a .carries)) h 0)) (a .l) figures (now (a .periods)) (now (a .carries)) (figure (c .before .before .before .before)) (s .pre .1 .1 .0)
     (λ h l. refl)
 
 pub bound-at-spec : {M : Type 1} → statement M

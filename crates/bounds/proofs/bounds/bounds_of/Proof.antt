@@ -1,4 +1,4 @@
--- `admission::bounds::bounds_of` meets its contract, with a square and without. Assumes nothing.
+-- `bounds::bounds::bounds_of` meets its contract, with a square and without. Assumes nothing.
 use mathlib.Core.Path.{refl, sym}
 use native.Mathlib.Omega.{arith}
 use Rattle.bounds.proofs.bounds.bounds_of.Statement.{statement}

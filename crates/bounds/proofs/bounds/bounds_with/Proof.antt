@@ -1,4 +1,4 @@
--- `admission::bounds::bounds_with` meets its contract: each flow passed has its bound, which stands in the array. Assumes nothing.
+-- `bounds::bounds::bounds_with` meets its contract: each flow passed has its bound, which stands in the array. Assumes nothing.
 use Prim.Native.Nat.{ℕ, _+_, _-_, _≤_, _<_}
 use mathlib.Core.Path.{_≡_, refl, sym, _∙_, ap, ap₂}
 use mathlib.Core.Bool.{false}
@@ -12,13 +12,13 @@ use native.Mathlib.Nat.{lt-of-lt-of-le}
 use Rattle.trade.specs.Limits.{mostFlows, mostPeriod}
 use Rattle.trade.specs.Layout.{field}
 use Rattle.trade.specs.Facts.{Facts, factsIn, factsOf, flowIn}
-use Rattle.trade.specs.Bound.{bound, boundless}
-use Rattle.trade.specs.Calls.{boundsOf}
+use Rattle.trade.specs.Bound.{byInterference, measure, bound, boundless}
+use Rattle.trade.specs.Calls.{boundsBy}
 use Rattle.trade.specs.declared.answer.Answer.{Answer}
 use Rattle.trade.specs.declared.flow.Flow.{Flow}
 use Rattle.bounds.specs.Bounds.{refusedBy}
 use Rattle.figures.specs.Square.{SquareOf}
-use Rattle.bounds.proofs.Alike.{alike-counts, boundBy-alike}
+use Rattle.trade.proofs.Alike.{Alike, alike-counts, byInterference-alike, bound-prefix}
 use Rattle.sections.proofs.FormedLaws.{formed-less}
 use Rattle.bounds.proofs.BoundsLaws.{boundless-over, boundless-in, bounded-refused, bounded-done}
 use Rattle.figures.proofs.KeepLaws.{square-more}
@@ -99,17 +99,19 @@ bounded :
     (c : tie.After-bound-at Inv-loop μ-loop)
     → c .bound-at .result
     ≡ bound (factsIn 0 (c .before .before .before .before .before .before .before .before .before .before .before .before .args .flows) (now (c .before .before .before .before .before .before .before .before .before .before .before .before .args .rows)) (now (c .before .before .before .before .before .before .before .before .before .before .before .before .args .records)) (now (c .before .before .before .before .before .before .before .before .before .before .before .before .args .steps))) (c .before .before .before .before .before .before .loop .l)
-unfolding bound factsOf
+unfolding factsOf
 bounded c =
     let a = c .before .before .before .before .before .before .before .before .before .before .before .before .args in
     let loop = c .before .before .before .before .before .before .loop in
-    let deadline : ℕ → ℕ = λ h. field (now (a .records)) h 3 in
+    let f : Facts = factsIn 0 0 (now (a .rows)) (now (a .records)) (now (a .steps)) in
+    let g : Facts = factsIn 0 (a .flows) (now (a .rows)) (now (a .records)) (now (a .steps)) in
+    let carry : ℕ → ℕ = λ h. getD (loop .carries) h 0 in
+    let alike : Alike (loop .l + 1) f g = alike-counts (loop .l + 1) 0 0 0 (a .flows) (now (a .rows)) (now (a .records)) (now (a .steps)) in
     c .bound-at .ensures
-    ∙ boundBy-alike (loop .l + 1) (factsIn 0 0 (now (a .rows)) (now (a .records)) (now (a .steps)))
-    (factsIn 0 (a .flows) (now (a .rows)) (now (a .records)) (now (a .steps)))
-    (alike-counts (loop .l + 1) 0 0 0 (a .flows) (now (a .rows)) (now (a .records)) (now (a .steps)))
-    (λ h. getD (loop .carries) h 0) deadline (loop .l) (omega arith)
-    (λ h b. rw (loop .inv .3) (filled-at mostFlows deadline (loop .l) h b))
+    ∙ bound-prefix (loop .l + 1) f g alike (byInterference f carry) (measure g)
+    (byInterference-alike (loop .l + 1) f g alike carry (g .deadline)
+    (λ l h p b. rw (loop .inv .3) (filled-at mostFlows (g .deadline) (loop .l) h (omega arith))))
+    (loop .l) (omega arith)
 
 cast-if1 : tie.Need-cast-if1 Inv-loop μ-loop
 cast-if1 c = omega (arith, fields (c .before .before .before .before .before))
@@ -133,7 +135,7 @@ returns c =
     rw (← fields (c .before .before .before .before .before .before .before .before) .1, ← bounded (c .before .before .before .before)) (c .before .before .if1 .taken) in
     c .refused2 .ensures
     ∙ ap refusedBy (c .before .refused .ensures)
-    ∙ sym (bounded-refused f (loop .l) (omega arith) (loop .inv .4) (boundless-over f (loop .l) over))
+    ∙ sym (bounded-refused f (loop .l) (omega arith) (loop .inv .4) (boundless-over f (measure f) (loop .l) over))
 
 cast-bounds : tie.Need-cast-bounds Inv-loop μ-loop
 cast-bounds c = omega (arith, fields (c .before .before .before .before .before .before))
@@ -192,7 +194,7 @@ loop-again c =
       rw (loop .inv .1, bounded (c .before .before .before .before .before .before .before .before)) (filled-more mostFlows (bound f) (loop .l) room),
       rw (loop .inv .2, said .0) (filled-more mostFlows (λ (h : ℕ). field (now (a .records)) h 2) (loop .l) room),
       rw (loop .inv .3, said .1) (filled-more mostFlows (λ (h : ℕ). field (now (a .records)) h 3) (loop .l) room),
-      below-more _ _ (loop .inv .4) (boundless-in f (loop .l) within),
+      below-more _ _ (loop .inv .4) (boundless-in f (measure f) (loop .l) within),
       kept .size ∙ loop .inv .5,
       λ some. rw (add-one (loop .l)) (square-more _ _ _ _ _ _ _ room kept (omega (arith, some, loop .inv .5)) (loop .inv .6 some)),
     )
@@ -204,7 +206,7 @@ same-length-2 : tie.Need-same-length-2 Inv-loop μ-loop
 same-length-2 c = c .before .before .loop .inv .5
 
 returns-2 : tie.Need-returns-2 Inv-loop μ-loop
-unfolding factsOf boundsOf
+unfolding factsOf boundsBy
 returns-2 c =
     let a = c .before .before .before .before .before .before .before .before .args in
     let loop = c .before .before .loop in

@@ -1,4 +1,4 @@
--- `admission::rising::instances` meets its contract. Assumes nothing.
+-- `bounds::rising::instances` meets its contract. Assumes nothing.
 use mathlib.Core.Path.{refl}
 use borrow.Author.Needs.{needs}
 use native.Mathlib.Omega.{arith}

@@ -1,4 +1,4 @@
--- `admission::rising::slots_needed` meets its contract: the sum is that of the flows passed. Assumes nothing.
+-- `bounds::rising::slots_needed` meets its contract: the sum is that of the flows passed. Assumes nothing.
 use Prim.Native.Nat.{ℕ, _+_, _-_, _*_, _≤_}
 use mathlib.Core.Path.{_≡_, _∙_, ap}
 use denote.Ref.{now}

@@ -1,4 +1,4 @@
--- `admission::rising::smallest` meets its contract: no r that was passed is enough. The measure is what is left up to the deadline.
+-- `bounds::rising::smallest` meets its contract: no r that was passed is enough. The measure is what is left up to the deadline.
 -- Assumes nothing.
 use Prim.Native.Nat.{ℕ, _+_, _-_, _≤_}
 use mathlib.Core.Path.{sym}

@@ -11,7 +11,8 @@ use Rattle.trade.specs.First.{sumTo}
 use Rattle.trade.specs.Layout.{sections, field}
 use Rattle.trade.specs.Facts.{factsOf, factsIn, firstStep, allSteps}
 use Rattle.trade.specs.Answers.{givenFirst, firstOf, noNumber}
-use Rattle.trade.specs.Codes.{badRecord, code6, code8, code9}
+use Rattle.trade.specs.Codes.{badRecord, code6, code8}
+use Rattle.trade.specs.Bound.{code9, code9By}
 use Rattle.trade.specs.declared.answer.Answer.{Answer}
 use Rattle.trade.proofs.Sums.{sum-most}
 use Rattle.trade.proofs.Answers.{firstOf-refuse, firstOf-pass, firstOf-last, given-passes, givenFirst-passed}
@@ -21,7 +22,8 @@ use Rattle.bounds.specs.Bounds.{boundedBy}
 use Rattle.changes.specs.Change.{newRules}
 use Rattle.sections.specs.Formed.{Formed}
 use Rattle.bounds.specs.declared.bounds.Checked.{Checked}
-use Rattle.bounds.proofs.Alike.{alike-counts, code9-alike}
+use Rattle.bounds.proofs.BoundsLaws.{bounded-alike}
+use Rattle.trade.proofs.Alike.{alike-counts}
 use Rattle.sections.proofs.FormedLaws.{formed-by}
 use borrow.Author.Needs.{needs}
 use Rattle.changes.proofs.change.new_answer.Statement.{statement}
@@ -93,12 +95,13 @@ bounds-of-requires : tie.Need-bounds-of-requires
 bounds-of-requires c κs = shaped c
 
 returns-3 : tie.Need-returns-3
-unfolding boundedBy code9 givenFirst factsOf
+unfolding boundedBy code9By givenFirst factsOf
 returns-3 c =
     let a = c .before .before .before .before .before .before .before .before .before .before .before .args in
-    ap (λ (r : Checked). r .answer) (c .before .bounds-of .ensures)
-    ∙ code9-alike (factsIn 0 (a .flows) (now (a .rows)) (now (a .records)) (now (a .steps))) (factsOf (sections (c .before .before .before .before .before .before .before .before .before .before .before .args .nodes) (c .before .before .before .before .before .before .before .before .before .before .before .args .flows) (now (c .before .before .before .before .before .before .before .before .before .before .before .args .rows)) (now (c .before .before .before .before .before .before .before .before .before .before .before .args .records)) (now (c .before .before .before .before .before .before .before .before .before .before .before .args .steps)))) refl
-    (alike-counts (a .flows) 0 (a .flows) (a .nodes) (a .flows) (now (a .rows)) (now (a .records)) (now (a .steps)))
+    ap (λ (r : Checked). r .answer)
+    (c .before .bounds-of .ensures
+    ∙ bounded-alike (factsIn 0 (a .flows) (now (a .rows)) (now (a .records)) (now (a .steps))) (factsIn (a .nodes) (a .flows) (now (a .rows)) (now (a .records)) (now (a .steps))) refl
+    (alike-counts (a .flows) 0 (a .flows) (a .nodes) (a .flows) (now (a .rows)) (now (a .records)) (now (a .steps))))
     ∙ sym
     (past-six (c .before .before .before .before .before)
     ∙ firstOf-pass _ _ noNumber (sections (c .before .before .before .before .before .before .before .before .before .before .before .args .nodes) (c .before .before .before .before .before .before .before .before .before .before .before .args .flows) (now (c .before .before .before .before .before .before .before .before .before .before .before .args .rows)) (now (c .before .before .before .before .before .before .before .before .before .before .before .args .records)) (now (c .before .before .before .before .before .before .before .before .before .before .before .args .steps))) (eight-passes (c .before .before))

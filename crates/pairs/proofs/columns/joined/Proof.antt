@@ -6,7 +6,7 @@ use native.Mathlib.Omega.{arith}
 use lib.Bits.{bitAnd, bitXor, and-le-l}
 use lib.Count.{trailingZeros}
 use Rattle.nodes.proofs.MaskLaws.{bit-none}
-use Rattle.pairs.proofs.OnesLaws.{trailing-lowest}
+use Rattle.nodes.proofs.OnesLaws.{trailing-lowest}
 use Rattle.pairs.proofs.JoinedLaws.{JoinedTo, joined-none, joined-next, joined-higher, joined-all, open-set}
 use Rattle.pairs.proofs.columns.joined.Statement.{statement}
 use Rattle.pairs.proofs.columns.joined.Tie as tie

@@ -3,7 +3,7 @@ use Prim.Native.Nat.{_-_}
 use mathlib.Core.Path.{_≡_, refl, sym}
 use native.Mathlib.Nat.{zero-div}
 use native.Mathlib.Omega.{arith}
-use Rattle.slot.specs.Turns.{instanceBy}
+use Rattle.slot.specs.Release.{instanceBy}
 use borrow.Author.Needs.{needs}
 use Rattle.slot.proofs.release.instance_at.Statement.{statement}
 use Rattle.slot.proofs.release.instance_at.Tie as tie

@@ -1,6 +1,6 @@
 -- `run::release::is_released` counts from the first release, and before it nothing is released. Assumes nothing.
 use borrow.Author.Tests.{lt-leb, le-leb}
-use Rattle.slot.specs.Turns.{releasedAt}
+use Rattle.slot.specs.Release.{releasedAt}
 use borrow.Author.Needs.{needs}
 use Rattle.slot.proofs.release.is_released.Statement.{statement}
 use Rattle.slot.proofs.release.is_released.Tie as tie

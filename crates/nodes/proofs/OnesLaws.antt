@@ -1,4 +1,4 @@
--- Counts of the bits below a place, and the lowest bit of a number: found, and cleared. Leans on Bits and lib.Count. Assumes nothing.
+-- Counts of the bits below a place, and the lowest bit of a number: found, and cleared. Leans on MaskLaws and lib.Count. Assumes nothing.
 use Prim.Native.Nat.{ℕ, zero, suc, _+_, _-_, _*_, _/_, _%_, _^_, _≤_, _<_}
 use mathlib.Core.Path.{_≡_, refl, sym, _∙_, ap, ap₂}
 use mathlib.Core.Bool.{Bool, true, false, not, _&&_}

@@ -1,0 +1,15 @@
+-- `area::refusals::is_bad` compares the steps done with L. Assumes nothing.
+use Rattle.area.specs.Refusals.{badAt}
+use borrow.Author.Needs.{needs}
+use Rattle.area.proofs.refusals.is_bad.Statement.{statement}
+use Rattle.area.proofs.refusals.is_bad.Tie as tie
+
+cast-done : tie.Need-cast-done
+cast-done c = search needs
+
+returns : tie.Need-returns
+unfolding badAt
+returns c = search needs
+
+pub is-bad-spec : {M : Type 1} → statement M
+is-bad-spec = tie.close (tie.spec cast-done returns)

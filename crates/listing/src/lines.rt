@@ -28,12 +28,17 @@ pub fn print_word(n: u16) {
     print_next(n as u64);
 }
 
-// REFUSED code number
-pub fn print_refusal(answer: Answer) {
-    print(b"REFUSED");
+// code number, at the end of a line
+pub fn print_answer(answer: Answer) {
     print_word(answer.code);
     print_next(answer.number);
     print(b"\n");
+}
+
+// REFUSED code number
+pub fn print_refusal(answer: Answer) {
+    print(b"REFUSED");
+    print_answer(answer);
 }
 
 // BOOK n m

@@ -1,15 +1,15 @@
--- `cases::writing::agreeing` is safe and ends: the bytes that are left grow fewer. Assumes nothing.
+-- `cases::desk::agreeing` is safe and ends: the bytes that are left grow fewer. Assumes nothing.
 use Prim.Native.Nat.{_≤_, _-_}
 use lib.ListN.{length}
 use borrow.Author.Needs.{needs}
-use Rattle.cases.proofs.writing.agreeing.Statement.{statement}
-use Rattle.cases.proofs.writing.agreeing.Tie as tie
+use Rattle.cases.proofs.desk.agreeing.Statement.{statement}
+use Rattle.cases.proofs.desk.agreeing.Tie as tie
 
 abbrev Inv-loop : tie.InvT-loop
-Inv-loop book buffer i₀ i = i ≤ length book
+Inv-loop book written i₀ i = i ≤ length book
 
 abbrev μ-loop : tie.MeasureT-loop
-μ-loop book buffer i₀ i = length book - i
+μ-loop book written i₀ i = length book - i
 
 loop-holds : tie.Need-loop-holds Inv-loop μ-loop
 loop-holds c = search needs

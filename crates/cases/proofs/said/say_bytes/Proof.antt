@@ -1,24 +1,21 @@
--- `cases::running::print_area` is safe and ends: the bytes that are left grow fewer. Assumes nothing.
+-- `cases::said::say_bytes` is safe and ends: the bytes that are left grow fewer. Assumes nothing.
 use Prim.Native.Nat.{_≤_, _-_}
 use lib.ListN.{length}
 use borrow.Author.Needs.{needs}
-use Rattle.cases.proofs.running.print_area.Statement.{statement}
-use Rattle.cases.proofs.running.print_area.Tie as tie
+use Rattle.cases.proofs.said.say_bytes.Statement.{statement}
+use Rattle.cases.proofs.said.say_bytes.Tie as tie
 
 abbrev Inv-loop : tie.InvT-loop
-Inv-loop area i₀ t4 i = i ≤ length area
+Inv-loop area count i₀ t4 i = i ≤ length area
 
 abbrev μ-loop : tie.MeasureT-loop
-μ-loop area i₀ t4 i = length area - i
-
-slice-aggregate-print : tie.Need-slice-aggregate-print Inv-loop μ-loop
-slice-aggregate-print c = search needs
-
-print-requires : tie.Need-print-requires Inv-loop μ-loop
-print-requires c κs = search needs
+μ-loop area count i₀ t4 i = length area - i
 
 loop-holds : tie.Need-loop-holds Inv-loop μ-loop
 loop-holds c = search needs
+
+sub-if1 : tie.Need-sub-if1 Inv-loop μ-loop
+sub-if1 c = search needs
 
 shared-slice-read-print-byte : tie.Need-shared-slice-read-print-byte Inv-loop μ-loop
 shared-slice-read-print-byte c = search needs
@@ -35,29 +32,28 @@ loop-less c = search needs
 loop-again : tie.Need-loop-again Inv-loop μ-loop
 loop-again c = search needs
 
-slice-aggregate-print-2 : tie.Need-slice-aggregate-print-2 Inv-loop μ-loop
-slice-aggregate-print-2 c = search needs
+slice-aggregate-print : tie.Need-slice-aggregate-print Inv-loop μ-loop
+slice-aggregate-print c = search needs
 
-print-requires-2 : tie.Need-print-requires-2 Inv-loop μ-loop
-print-requires-2 c κs = search needs
+print-requires : tie.Need-print-requires Inv-loop μ-loop
+print-requires c κs = search needs
 
 returns : tie.Need-returns Inv-loop μ-loop
 returns c = search needs
 
-pub print-area-spec : {M : Type 1} → statement M
-print-area-spec =
+pub say-bytes-spec : {M : Type 1} → statement M
+say-bytes-spec =
     tie.close
     (tie.spec
     Inv-loop
     μ-loop
-    slice-aggregate-print
-    print-requires
     loop-holds
+    sub-if1
     shared-slice-read-print-byte
     print-byte-requires
     add-i
     loop-less
     loop-again
-    slice-aggregate-print-2
-    print-requires-2
+    slice-aggregate-print
+    print-requires
     returns)

@@ -25,8 +25,8 @@ returns : tie.Need-returns
 returns c =
     record {
       answer = packs (c .packed .ensures) (c .before .before .before .before .before .advance .ensures .answer);
-      area = c .before .before .before .before .before .advance .ensures .area;
-      grants = c .before .before .before .before .before .advance .ensures .grants;
+      area = search needs;
+      grants = search needs;
     }
 
 pub slot-advance-spec : {M : Type 1} → statement M

@@ -1,2 +1,3 @@
 -- Definitions that the contracts of this crate cite beside those of the trade.
+pub mod Cut
 pub mod Change

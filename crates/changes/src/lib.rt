@@ -1,2 +1,4 @@
 // Changes of a table: a flow added at a place, or removed.
 pub mod change;
+mod cut;
+mod rules;

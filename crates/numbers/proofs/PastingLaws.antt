@@ -39,6 +39,10 @@ pasted-next front src d =
       length-append front src,
     )
 
+pub pasted-behind :
+    (at : ℕ) (front src d e : List ℕ) → length front ≡ at → e ≡ over front d → pastedAt at src e ≡ over (front ++ src) d
+pasted-behind at front src d e n p = ap₂ (λ (k : ℕ) (x : List ℕ). pastedAt k src x) (sym n) p ∙ pasted-next front src d
+
 -- what is put right behind what was put at a place
 pub pasted-on :
     (at : ℕ) (a b d : List ℕ)

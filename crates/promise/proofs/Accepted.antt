@@ -19,12 +19,11 @@ use Rattle.trade.specs.declared.answer.Answer.{Answer}
 use Rattle.trade.proofs.Sums.{length-listTo, getD-listTo}
 use Rattle.trade.proofs.Bytes.{byte-padded, length-padded}
 use Rattle.trade.proofs.Bound.{bound-smallest, accepted-exactly}
-use Rattle.trade.proofs.Answers.{Passed, passed-none, passed-more, passed-append, passed-first, passed-done, firstOf-passed, given-false}
+use Rattle.trade.proofs.Answers.{done-first, refused-second, Passed, passed-none, passed-more, passed-append, passed-first, passed-done, firstOf-passed, given-false}
 use Rattle.trade.proofs.Valid.{Valid, book-valid, check-bounds}
 use Rattle.response.specs.Waiting.{Bounded}
 use Rattle.response.proofs.Cases.{by-test}
 use Rattle.response.proofs.Promise.{admissible-bounded}
-use Rattle.promise.proofs.Refusals.{done-first, refused-second}
 use Rattle.promise.proofs.Sound.{Carries}
 
 -- the bounds of a book's flows

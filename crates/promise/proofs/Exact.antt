@@ -11,14 +11,13 @@ use Rattle.trade.specs.Bound.{measure}
 use Rattle.trade.specs.Slot.{releasesOf, greedy}
 use Rattle.trade.specs.Calls.{Writing, bookRules, readAnswer, writeAnswer, addAnswer, removeAnswer, startAnswer, readOf, writeOf, addOf, removeOf, startBy, advanceBy}
 use Rattle.trade.specs.Demands.{Program, planner, Done, Demand2}
-use Rattle.trade.proofs.Answers.{Passed, firstOf-passed}
+use Rattle.trade.proofs.Answers.{done-first, Passed, firstOf-passed}
 use Rattle.trade.proofs.Valid.{table-valid}
 use Rattle.trade.proofs.Calls.{read-done, write-done, advance-done, written-passed, written-book, written}
 use Rattle.trade.proofs.Used.{roomy, in-memory-holds}
 use Rattle.trade.proofs.RoundTrip.{write-then-read, read-passes, read-then-write}
 use Rattle.promise.specs.Promise.{Meets}
 use Rattle.promise.proofs.Meets.{by-meeting}
-use Rattle.promise.proofs.Refusals.{done-first}
 use Rattle.promise.proofs.Accepted.{check-decides}
 
 -- THE TWO ROUND TRIPS

@@ -1,22 +1,10 @@
 -- Demand 1, of the program that the definitions describe and so of every program that meets its contracts. Assumes nothing.
-use mathlib.Core.Path.{_≡_, refl}
-use mathlib.Core.Bool.{cond}
-use borrow.Author.Tests.{eq-eqb, ne-eqb}
-use Rattle.trade.specs.Answers.{isDone}
+use mathlib.Core.Path.{refl}
 use Rattle.trade.specs.Calls.{readOf, checkBy, writeOf, addOf, removeOf, startBy, advanceBy}
-use Rattle.trade.specs.Demands.{Program, planner, Done, Refused, Demand1}
-use Rattle.trade.specs.declared.answer.Answer.{Answer}
+use Rattle.trade.specs.Demands.{Program, planner, Demand1}
+use Rattle.trade.proofs.Answers.{refused-second}
 use Rattle.promise.specs.Promise.{Meets}
 use Rattle.promise.proofs.Meets.{by-meeting}
-
--- of what a call returns done and what it returns refused, a call that is done returns the first, and a refused call the second
-pub done-first : {A : Type 0} (a : Answer) (x y : A) → Done a → cond (isDone a) x y ≡ x
-unfolding isDone
-done-first a x y e = rw (eq-eqb (a .code) 0 e)
-
-pub refused-second : {A : Type 0} (a : Answer) (x y : A) → Refused a → cond (isDone a) x y ≡ y
-unfolding isDone
-refused-second a x y n = rw (ne-eqb (a .code) 0 n)
 
 -- DEMAND 1 is kept by the program that the definitions describe,
 pub planner-keeps-demand-1 : Demand1 planner

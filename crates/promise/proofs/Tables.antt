@@ -2,7 +2,7 @@
 -- is read and written again as it stands. Leans on the trade's round trips. Assumes nothing.
 use Prim.Native.Nat.{ℕ, _≤_}
 use mathlib.Core.Path.{_≡_, sym, _∙_, ap}
-use mathlib.Core.List.{List, [], _∷_}
+use mathlib.Core.List.{List, _++_}
 use native.Mathlib.Omega.{arith}
 use lib.ListN.{length}
 use borrow.Author.Tests.{eqb-false}
@@ -12,13 +12,14 @@ use Rattle.trade.specs.Layout.{Sections}
 use Rattle.trade.specs.Facts.{factsOf}
 use Rattle.trade.specs.Table.{used, bookOf, tableOf}
 use Rattle.trade.specs.Answers.{done, on, noNumber}
-use Rattle.trade.specs.Codes.{badRow, code3, code5, code6, code8, code14, code15Adding}
+use Rattle.trade.specs.Codes.{badRow, code3, code5, code14}
 use Rattle.trade.specs.Bound.{code9}
-use Rattle.trade.specs.Calls.{Written, Adding, tableRules, withFlow, addAnswer, boundsOf, readOf, addOf}
+use Rattle.trade.specs.Exchange.{recut}
+use Rattle.trade.specs.Calls.{Written, Adding, tableRules, withFlow, enterRules, newRules, addAnswer, boundsOf, readOf, addOf}
 use Rattle.trade.specs.Demands.{Program, planner, Done}
 use Rattle.trade.specs.declared.answer.Answer.{Answer}
 use Rattle.trade.proofs.Bytes.{take-over}
-use Rattle.trade.proofs.Answers.{Passed, passed-none, passed-more, passed-head, passed-tail, passed-first, passed-others, passed-look, firstOf-passed, given-passed}
+use Rattle.trade.proofs.Answers.{done-first, Passed, passed-none, passed-more, passed-head, passed-tail, passed-first, passed-others, passed-look, firstOf-passed, given-passed}
 use Rattle.trade.proofs.Valid.{Valid, table-valid, code3-passes}
 use Rattle.trade.proofs.Places.{alike-code5, alike-passed, alike-code9}
 use Rattle.trade.proofs.Used.{used-same, table-same, Holds, roomy, in-memory-holds, table-in-memory, table-table}
@@ -27,41 +28,33 @@ use Rattle.trade.proofs.RoundTrip.{write-then-read, write-then-check}
 use Rattle.promise.specs.Promise.{Meets}
 use Rattle.promise.specs.Tables.{writing, bookIn, OneBook}
 use Rattle.promise.proofs.Meets.{by-meeting}
-use Rattle.promise.proofs.Refusals.{done-first}
-
--- the rules of adding after those of the old table
-newRules : List (Adding → Answer)
-newRules =
-    (λ a. code14 (factsOf (a .table)))
-    ∷ (λ a. code15Adding (factsOf (a .table)) (a .place))
-    ∷ (λ a. code6 (factsOf (withFlow a)))
-    ∷ (λ a. code8 (factsOf (withFlow a)))
-    ∷ (λ a. code9 (factsOf (withFlow a)))
-    ∷ []
 
 module _ (a : Adding) (e : Done (addAnswer a)) where
-  -- the old table passes its rules, and then come the others
+  -- the old table passes its rules, then the place does, and then the new table
   old : Passed (a .table) tableRules
   unfolding addAnswer
   old =
       passed-look (λ (x : Adding). x .table) tableRules
       (passed-first (on (λ (x : Adding). x .table) tableRules) _ (firstOf-passed _ noNumber a e))
 
-  new : Passed a newRules
-  unfolding addAnswer newRules
-  new = passed-others (on (λ (x : Adding). x .table) tableRules) _ (firstOf-passed _ noNumber a e)
+  others : Passed a (enterRules ++ on withFlow newRules)
+  unfolding addAnswer
+  others = passed-others (on (λ (x : Adding). x .table) tableRules) _ (firstOf-passed _ noNumber a e)
+
+  new : Passed (withFlow a) newRules
+  new = passed-look withFlow newRules (passed-others enterRules _ others)
 
   -- the counts of the new table are within their limits: there was place for one more flow
   new-code3 : code3 (factsOf (withFlow a)) .code ≡ 0
-  unfolding newRules code14 factsOf withFlow used
+  unfolding enterRules code14 factsOf withFlow recut used
   new-code3 =
       let v : Valid (factsOf (a .table)) = table-valid (a .table) old in
-      let full : a .table .flows ≡ mostFlows → ⊥ = eqb-false _ _ (given-passed 13 _ 0 (passed-head new)) in
+      let full : a .table .flows ≡ mostFlows → ⊥ = eqb-false _ _ (given-passed 13 _ 0 (passed-head others)) in
       code3-passes (factsOf (withFlow a)) (v .nodes) (record { least = omega arith; most = omega (arith, full, v .flows) })
 
   -- the rows stay
   new-code5 : code5 (factsOf (withFlow a)) .code ≡ 0
-  unfolding tableRules code5 badRow factsOf withFlow
+  unfolding tableRules code5 badRow factsOf withFlow recut
   new-code5 =
       sym (ap (λ (r : Answer). r .code) (alike-code5 (a .table) (used (a .table)) (used-same (a .table))))
       ∙ passed-head (passed-tail old)
@@ -70,8 +63,7 @@ module _ (a : Adding) (e : Done (addAnswer a)) where
   with-passes : Passed (withFlow a) tableRules
   unfolding tableRules newRules
   with-passes =
-      let six = passed-tail (passed-tail new) in
-      passed-more new-code3 (passed-more new-code5 (passed-more (passed-head six) (passed-more (passed-head (passed-tail six)) passed-none)))
+      passed-more new-code3 (passed-more new-code5 (passed-more (passed-head new) (passed-more (passed-head (passed-tail new)) passed-none)))
 
   -- and so does the table that add returns, which is a table in memory
   abbrev table : Sections
@@ -94,7 +86,7 @@ module _ (a : Adding) (e : Done (addAnswer a)) where
   table-bounds =
       sym
       (ap (λ (r : Answer). r .code) (alike-code9 (withFlow a) table (table-same (withFlow a)) with-passes))
-      ∙ passed-head (passed-tail (passed-tail (passed-tail (passed-tail new))))
+      ∙ passed-head (passed-tail (passed-tail new))
 
   -- its book is read as it stands
   table-read : readOf (bookOf table) ≡ record { answer = done 0; table = table }

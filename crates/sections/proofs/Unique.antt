@@ -1,8 +1,6 @@
 -- Each public function's contract leaves one result, and one content of what it was lent. The contracts are those that the check
 -- reads in the code, `Post`. Assumes nothing.
 use Rattle.trade.proofs.Unique.{OneResult, one-result}
-use Rattle.sections.proofs.records.is_misfit.Kinds as is-misfit-kinds
-use Rattle.sections.proofs.records.is_misfit.Reads as is-misfit
 use Rattle.sections.proofs.records.record_at.Kinds as record-at-kinds
 use Rattle.sections.proofs.records.record_at.Reads as record-at
 use Rattle.sections.proofs.records.records_answer.Kinds as records-answer-kinds
@@ -18,9 +16,6 @@ use Rattle.sections.proofs.records.steps_before.Reads as steps-before
 
 pub record-at-unique : OneResult 1 record-at-kinds.ps record-at-kinds.r record-at.Post
 record-at-unique κs a r r' s s' p q = one-result p q
-
-pub is-misfit-unique : OneResult 0 is-misfit-kinds.ps is-misfit-kinds.r is-misfit.Post
-is-misfit-unique κs a r r' s s' p q = one-result p q
 
 pub records-answer-unique : OneResult 1 records-answer-kinds.ps records-answer-kinds.r records-answer.Post
 records-answer-unique κs a r r' s s' p q = one-result p q

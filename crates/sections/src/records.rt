@@ -72,7 +72,7 @@ fn id_before(records: &[u8], i: usize) -> bool
 }
 
 // Whether a field of a flow is outside its range, its id 0 among them.
-pub fn is_misfit(f: Flow) -> bool
+fn is_misfit(f: Flow) -> bool
     ensures { λ r. ⌜ r ≡ misfit f ⌝ }
 {
     is_outside(1, Flow::MOST_ID, f.id)

@@ -9,22 +9,21 @@ use lib.ListN.{length, take, length-append}
 use borrow.Author.Tests.{eq-eqb, ne-eqb, lt-ltb}
 use Rattle.trade.specs.Limits.{mostNodes, mostFlows, mostSteps, rowBytes, recordBytes, stepBytes, trailerBytes}
 use Rattle.trade.specs.Bytes.{over}
-use Rattle.trade.specs.Layout.{Sections, field}
-use Rattle.trade.specs.Facts.{factsOf, firstStep, allSteps}
+use Rattle.trade.specs.Layout.{Sections}
+use Rattle.trade.specs.Facts.{factsOf, allSteps}
 use Rattle.trade.specs.Table.{rowsDistanceOf, recordsDistanceOf, stepsDistanceOf, bookOf, trailerOf, used}
 use Rattle.trade.specs.Answers.{done, refused, isDone, given, firstOf, noNumber}
 use Rattle.trade.specs.Codes.{code13}
 use Rattle.trade.specs.Calls.{Writing, Written, tableRules, writeAnswer, writeOf}
 use Rattle.trade.specs.declared.answer.Answer.{Answer}
-use Rattle.trade.proofs.Sums.{sum-most}
-use Rattle.trade.proofs.Answers.{firstOf-passed, firstOf-on, firstOf-refuse, given-true}
-use Rattle.trade.proofs.Valid.{table-valid}
+use Rattle.trade.proofs.Answers.{passed-head, passed-tail, firstOf-passed, firstOf-on, firstOf-refuse, given-true}
+use Rattle.trade.proofs.Valid.{plans-most, table-valid}
 use Rattle.trade.proofs.Used.{Holds, length-book}
 use Rattle.trade.proofs.Calls.{written}
 use Rattle.table.specs.Written.{Room, Writes, trailerWith}
 use lib.Seq.{length-take-le}
 use Rattle.numbers.specs.Pasting.{pastedAt}
-use Rattle.numbers.proofs.PastingLaws.{pasted-first, pasted-next}
+use Rattle.numbers.proofs.PastingLaws.{pasted-first, pasted-behind}
 
 -- a table that passes: its counts are in range, and so is the sum of its L
 pub record Sized (t : Sections) : Type 0 where
@@ -33,14 +32,11 @@ pub record Sized (t : Sections) : Type 0 where
   pub plans : allSteps (factsOf t) ≤ mostSteps * t .flows
 
 pub sized : (t : Sections) → firstOf tableRules noNumber t .code ≡ 0 → Sized t
-unfolding allSteps firstStep factsOf
+unfolding tableRules factsOf
 sized t e =
-    let v = table-valid t (firstOf-passed tableRules noNumber t e) in
-    record {
-      nodes = v .nodes .most;
-      flows = v .flows;
-      plans = sum-most (λ i. field (t .records) i 4) mostSteps (t .flows) (λ i h. v .records i h .len .most);
-    }
+    let p = firstOf-passed tableRules noNumber t e in
+    let v = table-valid t p in
+    record { nodes = v .nodes .most; flows = v .flows; plans = plans-most (factsOf t) (passed-head (passed-tail (passed-tail p))) }
 
 -- the length of its book
 pub book-length :
@@ -132,6 +128,6 @@ module _ (s : Sections) (all room : ℕ) (r : Room s all room) where
       let l₃ : length (rows ++ records ++ steps) ≡ rowBytes * s .nodes + recordBytes * s .flows + stepBytes * all =
       length-append (rows ++ records) steps ∙ ap₂ (λ (a b : ℕ). a + b) l₂ n₃ in
       let p₁ : d₁ ≡ over rows d = e₁ ∙ pasted-first rows d in
-      let p₂ : d₂ ≡ over (rows ++ records) d = e₂ ∙ ap₂ (λ (k : ℕ) (x : List ℕ). pastedAt k records x) (sym n₁) p₁ ∙ pasted-next rows records d in
-      let p₃ : d₃ ≡ over (rows ++ records ++ steps) d = e₃ ∙ ap₂ (λ (k : ℕ) (x : List ℕ). pastedAt k steps x) (sym l₂) p₂ ∙ pasted-next (rows ++ records) steps d in
-      e₄ ∙ ap₂ (λ (k : ℕ) (x : List ℕ). pastedAt k tail x) (sym l₃) p₃ ∙ pasted-next (rows ++ records ++ steps) tail d ∙ ap (λ (b : List ℕ). over b d) book-parts
+      let p₂ : d₂ ≡ over (rows ++ records) d = e₂ ∙ pasted-behind (rowBytes * s .nodes) rows records d d₁ n₁ p₁ in
+      let p₃ : d₃ ≡ over (rows ++ records ++ steps) d = e₃ ∙ pasted-behind _ (rows ++ records) steps d d₂ l₂ p₂ in
+      e₄ ∙ pasted-behind _ (rows ++ records ++ steps) tail d d₃ l₃ p₃ ∙ ap (λ (b : List ℕ). over b d) book-parts

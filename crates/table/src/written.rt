@@ -9,6 +9,7 @@ ghost use Rattle.table.specs.Table.{sectionsIn};
 ghost use Rattle.table.specs.Written.{trailerWith, Room, Writes};
 use crate::table::Table;
 use crate::table::table_answer;
+use numbers::numbers::put_word;
 use numbers::pasting::put_at;
 use sections::records::steps_before;
 use trade::Answer;
@@ -28,18 +29,15 @@ fn trailer_bytes(
     ensures { λ r. ⌜ r ≡ trailerWith rows records steps nodes flows ⌝ }
 {
     let mark = Book::MARK;
-    [
-        (rows / 256 % 256) as u8,
-        (rows % 256) as u8,
-        (records / 256 % 256) as u8,
-        (records % 256) as u8,
-        (steps / 256 % 256) as u8,
-        (steps % 256) as u8,
-        nodes,
-        flows,
-        mark[0],
-        mark[1],
-    ]
+    let mut trailer = [0u8; Book::TRAILER_BYTES];
+    put_word(&mut trailer, 0, rows);
+    put_word(&mut trailer, 2, records);
+    put_word(&mut trailer, 4, steps);
+    trailer[6] = nodes;
+    trailer[7] = flows;
+    trailer[8] = mark[0];
+    trailer[9] = mark[1];
+    trailer
 }
 
 // The used places of a table's sections and the trailer, one behind the other.

@@ -13,6 +13,15 @@ use Rattle.trade.specs.First.{first, some}
 use Rattle.trade.specs.Answers.{done, refused, isDone, given, givenFirst, firstOf, on, noNumber}
 use Rattle.trade.specs.declared.answer.Answer.{Answer}
 
+-- of what a call returns done and what it returns refused, one that is done returns the first, and a refused one the second
+pub done-first : {A : Type 0} (a : Answer) (x y : A) → a .code ≡ 0 → cond (isDone a) x y ≡ x
+unfolding isDone
+done-first a x y e = rw (eq-eqb (a .code) 0 e)
+
+pub refused-second : {A : Type 0} (a : Answer) (x y : A) → (a .code ≡ 0 → ⊥) → cond (isDone a) x y ≡ y
+unfolding isDone
+refused-second a x y n = rw (ne-eqb (a .code) 0 n)
+
 -- no rule tells x from y
 pub data Same {A : Type 0} (x y : A) : List (A → Answer) → Type 0 where
   same-none : Same x y []
@@ -172,19 +181,56 @@ firstOf-last rule x plain =
     (λ (e : eqb (rule x .code) 0 ≡ false). firstOf-rule rule [] noNumber x ∙ rw e)
     (bool-cases (eqb (rule x .code) 0))
 
--- rules on a part of what is handed, and then more: theirs is the answer if they refuse, and else it is left to those after them
+-- of rules put together, the first decide, or the others do
+pub firstOf-append :
+    {A : Type 0} (rules more : List (A → Answer)) (number : A → ℕ) (x : A)
+    → firstOf (rules ++ more) number x ≡ cond (isDone (firstOf rules noNumber x)) (firstOf more number x) (firstOf rules noNumber x)
+unfolding firstOf isDone
+firstOf-append [] more number x = refl
+firstOf-append (rule ∷ rules) more number x =
+    ⊎-elim
+    (λ (e : isDone (rule x) ≡ true).
+    firstOf-rule rule (rules ++ more) number x ∙ rw (e, firstOf-append rules more number x, firstOf-rule rule rules noNumber x, e))
+    (λ (e : isDone (rule x) ≡ false). firstOf-rule rule (rules ++ more) number x ∙ rw (e, firstOf-rule rule rules noNumber x, e, e))
+    (bool-cases (isDone (rule x)))
+
+pub append-refused :
+    {A : Type 0} (rules more : List (A → Answer)) (number : A → ℕ) (x : A)
+    → (firstOf rules noNumber x .code ≡ 0 → ⊥)
+    → firstOf (rules ++ more) number x ≡ firstOf rules noNumber x
+append-refused rules more number x n = firstOf-append rules more number x ∙ refused-second (firstOf rules noNumber x) _ _ n
+
+pub append-passed :
+    {A : Type 0} (rules more : List (A → Answer)) (number : A → ℕ) (x : A)
+    → firstOf rules noNumber x .code ≡ 0
+    → firstOf (rules ++ more) number x ≡ firstOf more number x
+append-passed rules more number x e = firstOf-append rules more number x ∙ done-first (firstOf rules noNumber x) _ _ e
+
+-- rules on a part of what is handed answer as they do by themselves
+pub firstOf-look :
+    {A B : Type 0} (look : B → A) (rules : List (A → Answer)) (x : B)
+    → firstOf (on look rules) noNumber x ≡ firstOf rules noNumber (look x)
+unfolding on firstOf
+firstOf-look look [] x = refl
+firstOf-look look (rule ∷ rules) x =
+    firstOf-rule (λ y. rule (look y)) (on look rules) noNumber x
+    ∙ rw (firstOf-look look rules x) (sym (firstOf-rule rule rules noNumber (look x)))
+
+-- and then more: theirs is the answer if they refuse, and else it is left to those after them
 pub firstOf-on :
     {A B : Type 0} (look : B → A) (rules : List (A → Answer)) (more : List (B → Answer)) (number : B → ℕ) (x : B)
     → firstOf (on look rules ++ more) number x
     ≡ cond (isDone (firstOf rules noNumber (look x))) (firstOf more number x) (firstOf rules noNumber (look x))
-unfolding on isDone firstOf
-firstOf-on look [] more number x = refl
-firstOf-on look (rule ∷ rules) more number x =
-    ⊎-elim
-    (λ (e : isDone (rule (look x)) ≡ true).
-    firstOf-rule (λ y. rule (look y)) (on look rules ++ more) number x
-    ∙ rw (e, firstOf-on look rules more number x, firstOf-rule rule rules noNumber (look x), e))
-    (λ (e : isDone (rule (look x)) ≡ false).
-    firstOf-rule (λ y. rule (look y)) (on look rules ++ more) number x
-    ∙ rw (e, firstOf-rule rule rules noNumber (look x), e, e))
-    (bool-cases (isDone (rule (look x))))
+firstOf-on look rules more number x = firstOf-append (on look rules) more number x ∙ rw (firstOf-look look rules x)
+
+pub on-refused :
+    {A B : Type 0} (look : B → A) (rules : List (A → Answer)) (more : List (B → Answer)) (number : B → ℕ) (x : B)
+    → (firstOf rules noNumber (look x) .code ≡ 0 → ⊥)
+    → firstOf (on look rules ++ more) number x ≡ firstOf rules noNumber (look x)
+on-refused look rules more number x n = firstOf-on look rules more number x ∙ refused-second (firstOf rules noNumber (look x)) _ _ n
+
+pub on-passed :
+    {A B : Type 0} (look : B → A) (rules : List (A → Answer)) (more : List (B → Answer)) (number : B → ℕ) (x : B)
+    → firstOf rules noNumber (look x) .code ≡ 0
+    → firstOf (on look rules ++ more) number x ≡ firstOf more number x
+on-passed look rules more number x e = firstOf-on look rules more number x ∙ done-first (firstOf rules noNumber (look x)) _ _ e

@@ -15,6 +15,7 @@ pub mod Area
 pub mod Grants
 pub mod Places
 pub mod Used
+pub mod Exchange
 pub mod Whole
 pub mod Calls
 pub mod Front

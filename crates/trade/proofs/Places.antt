@@ -67,7 +67,7 @@ module _ (s t : Sections) (same : SameUsed s t) where
   unfolding factsOf stepIn
   same-step k k< = rw (same .steps (stepBytes * k) (omega arith), same .steps (stepBytes * k + 1) (omega arith))
 
-  same-firstStep : (i : ℕ) → i ≤ f .flows → firstStep f i ≡ firstStep g i
+  pub same-firstStep : (i : ℕ) → i ≤ f .flows → firstStep f i ≡ firstStep g i
   unfolding firstStep
   same-firstStep i h = sum-cong (f .len) (g .len) i (λ j l. same-len j (omega arith))
 

@@ -1,9 +1,9 @@
 -- Sums, largest values and lists over indices. Leans on First. Assumes nothing.
-use Prim.Native.Nat.{ℕ, zero, suc, _+_, _*_, _≤_, _<_, max}
+use Prim.Native.Nat.{ℕ, zero, suc, _+_, _-_, _*_, _≤_, _<_, max}
 use mathlib.Core.Path.{_≡_, refl, sym, _∙_, ap, ap₂}
 use mathlib.Core.Logic.{⊎-elim}
 use native.Mathlib.Omega.{arith}
-use native.Mathlib.Nat.{zero-add, mul-suc, add-le-add, le-trans, le-max-left, le-max-right, max-le, max-eq-left, max-eq-right}
+use native.Mathlib.Nat.{zero-add, add-zero, add-suc, mul-suc, add-le-add, le-trans, le-max-left, le-max-right, max-le, max-eq-left, max-eq-right}
 use lib.ListN.{length, getD}
 use lib.Seq.{ext-getD}
 use Rattle.trade.specs.First.{sumTo, largestFrom, listFrom, listTo}
@@ -39,6 +39,15 @@ sum-le f m (suc n) h =
     ⊎-elim (λ (l : m < suc n). le-trans (sum-le f m n (omega arith)) (omega arith))
     (λ (g : suc n ≤ m). let e : m ≡ suc n = omega arith in rw e (omega arith))
     (lt-or-ge m (suc n))
+
+-- a sum in two parts
+pub sum-split : (f : ℕ → ℕ) (m n : ℕ) → sumTo f (m + n) ≡ sumTo f m + sumTo (λ i. f (m + i)) n
+unfolding sumTo
+sum-split f m zero = rw (add-zero m) (omega arith)
+sum-split f m (suc n) = rw (add-suc m n, sum-split f m n) (omega arith)
+
+pub sum-rest : (f : ℕ → ℕ) (m n : ℕ) → m ≤ n → sumTo f n ≡ sumTo f m + sumTo (λ i. f (m + i)) (n - m)
+sum-rest f m n h = let e : n ≡ m + (n - m) = omega arith in ap (sumTo f) e ∙ sum-split f m (n - m)
 
 -- no value is above the largest, a bound on every value is one on the largest, and some value is the largest
 pub largest-above : (f : ℕ → ℕ) (i k c : ℕ) → i ≤ c → c < i + k → f c ≤ largestFrom f i k

@@ -1,16 +1,16 @@
 -- The used places of a table: the rules and the book read nothing else, and zeros behind them change neither. Leans on Places and
 -- Valid. Assumes nothing.
-use Prim.Native.Nat.{ℕ, _+_, _*_, _≤_, _<_}
+use Prim.Native.Nat.{ℕ, _+_, _*_, _%_, _/_, _≤_, _<_}
 use mathlib.Core.Path.{_≡_, refl, sym, _∙_, ap, ap₂}
 use mathlib.Core.Logic.{⊎-elim}
 use mathlib.Core.List.{List, _++_}
 use native.Mathlib.Omega.{arith}
 use lib.ListN.{length, take, length-append, length-take, List·getD-eq-default}
-use lib.Seq.{length-take-le, take-take, take-at, getD-take, ext-getD}
+use lib.Seq.{length-take-le, take-take, take-all, take-at, getD-take, ext-getD}
 use Rattle.trade.specs.Limits.{mostSteps, rowBytes, recordBytes, stepBytes, trailerBytes}
-use Rattle.trade.specs.Bytes.{byte, twoBytes, padded}
-use Rattle.trade.specs.Layout.{Sections}
-use Rattle.trade.specs.Facts.{factsOf, firstStep, allSteps}
+use Rattle.trade.specs.Bytes.{byte, word, twoBytes, bit, padded}
+use Rattle.trade.specs.Layout.{Sections, sections, field}
+use Rattle.trade.specs.Facts.{disturbsIn, stepIn, factsOf, firstStep, allSteps}
 use Rattle.trade.specs.Table.{stepsDistanceOf, recordsDistanceOf, rowsDistanceOf, trailerOf, used, bookOf, rowsRoom, recordsRoom, stepsRoom, InMemory, tableOf}
 use Rattle.trade.proofs.First.{lt-or-ge}
 use Rattle.trade.proofs.Sums.{sum-most}
@@ -89,10 +89,67 @@ module _ (s : Sections) where
       })
       used-used
 
+-- zeros behind the used places say nothing more
+pub table-facts : (s : Sections) → factsOf (tableOf s) ≡ factsOf (used s)
+unfolding factsOf tableOf used disturbsIn stepIn field word
+table-facts s =
+    λ i.
+    record {
+      nodes = used s .nodes;
+      flows = used s .flows;
+      disturbs = λ x y. bit (byte-padded rowsRoom (used s .rows) (rowBytes * x + y / 8) i) (y % 8);
+      id = λ j. said j 0 i;
+      phase = λ j. said j 1 i;
+      period = λ j. said j 2 i;
+      deadline = λ j. said j 3 i;
+      len = λ j. said j 4 i;
+      step = λ k.
+          record {
+            sender = record { 0 = byte-padded stepsRoom (used s .steps) (stepBytes * k) i };
+            receiver = record { 0 = byte-padded stepsRoom (used s .steps) (stepBytes * k + 1) i };
+          };
+    }
+  where
+    said : (j k : ℕ) → field (padded recordsRoom (used s .records)) j k ≡ field (used s .records) j k
+    said j k =
+        ap₂ (λ (high low : ℕ). high * 256 + low) (byte-padded recordsRoom (used s .records) (recordBytes * j + 2 * k))
+        (byte-padded recordsRoom (used s .records) (recordBytes * j + 2 * k + 1))
+
+-- sections that have no more than their used places
+pub record NoMore (s : Sections) : Type 0 where
+  pub rows : length (s .rows) ≤ rowBytes * s .nodes
+  pub records : length (s .records) ≤ recordBytes * s .flows
+  pub steps : length (s .steps) ≤ stepBytes * allSteps (factsOf s)
+
+-- are their own used places, which their table says and has in front of its zeros
+module _ (s : Sections) (n : NoMore s) where
+  no-more-used : used s ≡ s
+  unfolding used
+  no-more-used = same-sections (used s) s refl refl (take-all _ _ (n .rows)) (take-all _ _ (n .records)) (take-all _ _ (n .steps))
+
+  pub no-more-facts : factsOf (tableOf s) ≡ factsOf s
+  no-more-facts = table-facts s ∙ ap factsOf no-more-used
+
+  pub no-more-table :
+      tableOf s
+      ≡ sections (s .nodes) (s .flows) (padded rowsRoom (s .rows)) (padded recordsRoom (s .records)) (padded stepsRoom (s .steps))
+  unfolding tableOf used
+  no-more-table =
+      ap
+      (λ (u : Sections).
+      sections (u .nodes) (u .flows) (padded rowsRoom (u .rows)) (padded recordsRoom (u .records)) (padded stepsRoom (u .steps)))
+      no-more-used
+
 -- a trailer has ten bytes
 pub length-trailer : (s : Sections) → length (trailerOf s) ≡ trailerBytes
 unfolding trailerOf twoBytes
 length-trailer s = refl
+
+-- sections that have their used places and no others
+pub record Full (s : Sections) : Type 0 where
+  pub rows : length (s .rows) ≡ rowBytes * s .nodes
+  pub records : length (s .records) ≡ recordBytes * s .flows
+  pub steps : length (s .steps) ≡ stepBytes * allSteps (factsOf s)
 
 -- sections that hold all of their used places
 pub record Holds (s : Sections) : Type 0 where
@@ -112,6 +169,11 @@ module _ (s : Sections) (h : Holds s) where
   pub length-used-steps : length (used s .steps) ≡ stepBytes * allSteps (factsOf s)
   unfolding used
   length-used-steps = length-take-le _ (s .steps) (h .steps)
+
+  -- and so they are all that the used places have
+  pub used-full : Full (used s)
+  unfolding used
+  used-full = record { rows = length-used-rows; records = length-used-records; steps = length-used-steps ∙ sym (used-steps s) }
 
   -- and of its book that length is the rows' distance
   pub length-book : length (bookOf s) ≡ rowsDistanceOf s

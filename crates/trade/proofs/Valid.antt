@@ -1,6 +1,6 @@
 -- What a book that passes the rules says: its counts and the fields of its records are within their ranges, no two flows have one
 -- id, its steps go between its nodes, and where check passes it every flow has a bound. Leans on Answers and Bound. Assumes nothing.
-use Prim.Native.Nat.{ℕ, _≤_, _<_}
+use Prim.Native.Nat.{ℕ, _*_, _≤_, _<_}
 use mathlib.Core.Path.{_≡_, sym, ap}
 use mathlib.Core.Bool.{false}
 use mathlib.Core.Logic.{⊎-elim}
@@ -10,13 +10,14 @@ use lib.Dec.{eqb, ltb}
 use borrow.Author.Tests.{leb-false, ltb-false, le-ltb, eqb-false}
 use Rattle.trade.specs.Limits.{mostNodes, mostFlows, mostId, mostPhase, mostPeriod, mostSteps}
 use Rattle.trade.specs.Layout.{Sections}
-use Rattle.trade.specs.Facts.{Facts, factsOf, said, allSteps}
+use Rattle.trade.specs.Facts.{Facts, factsOf, said, firstStep, allSteps}
 use Rattle.trade.specs.Bound.{Measure, Admissible, boundBy, code9By}
 use Rattle.trade.specs.Codes.{outside, badRecord, badStep, code3, code6, code8}
 use Rattle.trade.specs.Calls.{bookRules, tableRules, checkRulesBy}
 use Rattle.trade.specs.declared.answer.Answer.{Answer}
 use Rattle.trade.specs.declared.node.Transmission.{Transmission}
 use Rattle.trade.proofs.First.{or-false, lt-or-ge, some-false}
+use Rattle.trade.proofs.Sums.{sum-most}
 use Rattle.trade.proofs.Answers.{Passed, passed-head, passed-tail, passed-others, given-passed, given-false, givenFirst-passed}
 use Rattle.trade.proofs.Bound.{bound-admissible, boundless-false}
 
@@ -67,6 +68,12 @@ sound f i e =
       deadline = outside-false _ _ _ deadline;
       len = outside-false _ _ _ len;
     }
+
+-- where code 6 passes, the plans have no more steps in all than so many plans of the most
+pub plans-most : (f : Facts) → code6 f .code ≡ 0 → allSteps f ≤ mostSteps * f .flows
+unfolding code6 allSteps firstStep
+plans-most f e =
+    sum-most (f .len) mostSteps (f .flows) (λ i h. sound f i (givenFirst-passed 5 (badRecord f) (f .flows) e i h) .len .most)
 
 -- facts that pass codes 3 and 6
 pub record Valid (f : Facts) : Type 0 where

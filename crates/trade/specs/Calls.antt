@@ -1,15 +1,16 @@
 -- The seven calls: for all that a call is handed, its answer, what it returns beside it, and what it leaves in lent memory, done or
 -- refused. Leans on Codes and all below it.
-use Prim.Native.Nat.{ℕ, suc, pred, _*_}
+use Prim.Native.Nat.{ℕ, suc, _*_}
 use mathlib.Core.Bool.{cond}
 use mathlib.Core.List.{List, [], _∷_, _++_}
-use lib.ListN.{length, take, drop, replicate}
-use Rattle.trade.specs.Limits.{mostFlows, recordBytes, stepBytes, areaBytes, grantBytes}
+use lib.ListN.{length, take, replicate}
+use Rattle.trade.specs.Limits.{mostFlows, stepBytes, areaBytes, grantBytes}
 use Rattle.trade.specs.First.{listTo}
 use Rattle.trade.specs.Bytes.{twoBytes, over, padded}
 use Rattle.trade.specs.Layout.{Sections, sectionsOf}
-use Rattle.trade.specs.Facts.{Facts, factsOf, said, firstStep}
+use Rattle.trade.specs.Facts.{Facts, factsOf, said}
 use Rattle.trade.specs.Table.{used, bookOf, tableOf, emptyTable}
+use Rattle.trade.specs.Exchange.{Exchange, recut}
 use Rattle.trade.specs.Answers.{isDone, firstOf, on, noNumber}
 use Rattle.trade.specs.Bound.{Measure, measure, boundBy, code9By, code9}
 use Rattle.trade.specs.Slot.{State, atStart, Releases, releasesOf, Waits, greedy, grantedBy, nextStateBy, grantOf, grantsOf}
@@ -121,31 +122,24 @@ pub record Changed : Type 0 where
 unfoldable pub recordOf : Flow → List ℕ
 recordOf w = twoBytes (w .id) ++ twoBytes (w .phase) ++ twoBytes (w .period) ++ twoBytes (w .deadline) ++ twoBytes (w .len)
 
--- the old table's used places, with the newcomer's record and the L steps of its plan put in at the place
-unfoldable pub withFlow : Adding → Sections
-withFlow a =
-    let s : Sections = used (a .table) in
-    let before : ℕ = recordBytes * a .place in
-    let start : ℕ = stepBytes * firstStep (factsOf s) (a .place) in
-    record {
-      nodes = s .nodes;
-      flows = suc (s .flows);
-      rows = s .rows;
-      records = take before (s .records) ++ recordOf (a .flow) ++ drop before (s .records);
-      steps = take start (s .steps) ++ take (stepBytes * a .flow .len) (a .plan) ++ drop start (s .steps);
-    }
+-- one flow comes in at a place, with its record and the L steps of its plan
+abbrev pub entering : ℕ → Flow → List ℕ → Exchange
+entering place w plan = record { from = place; to = place; come = 1; records = recordOf w; steps = take (stepBytes * w .len) plan }
 
+-- the old table's used places, with the newcomer put in at the place
+unfoldable pub withFlow : Adding → Sections
+withFlow a = recut (used (a .table)) (entering (a .place) (a .flow) (a .plan))
+
+-- the rules on where a flow comes in, and those on the new table
+unfoldable pub enterRules : List (Adding → Answer)
+enterRules = (λ a. code14 (factsOf (a .table))) ∷ (λ a. code15Adding (factsOf (a .table)) (a .place)) ∷ []
+
+unfoldable pub newRules : List (Sections → Answer)
+newRules = (λ t. code6 (factsOf t)) ∷ (λ t. code8 (factsOf t)) ∷ (λ t. code9 (factsOf t)) ∷ []
+
+-- the old table's rules come first, then these two
 unfoldable pub addAnswer : Adding → Answer
-addAnswer =
-    firstOf
-    (on (λ a. a .table) tableRules
-    ++ ((λ a. code14 (factsOf (a .table)))
-    ∷ (λ a. code15Adding (factsOf (a .table)) (a .place))
-    ∷ (λ a. code6 (factsOf (withFlow a)))
-    ∷ (λ a. code8 (factsOf (withFlow a)))
-    ∷ (λ a. code9 (factsOf (withFlow a)))
-    ∷ []))
-    noNumber
+addAnswer = firstOf (on (λ a. a .table) tableRules ++ (enterRules ++ on withFlow newRules)) noNumber
 
 unfoldable pub addOf : Adding → Changed
 addOf a =
@@ -159,22 +153,20 @@ pub record Removing : Type 0 where
   pub table : Sections
   pub place : ℕ
 
--- the old table's used places without the record and the steps of the flow at the place
+-- the flow at a place goes
+abbrev pub leaving : ℕ → Exchange
+leaving place = record { from = place; to = suc place; come = 0; records = []; steps = [] }
+
+-- the old table's used places without the flow at the place
 unfoldable pub withoutFlow : Removing → Sections
-withoutFlow r =
-    let s : Sections = used (r .table) in
-    let p : ℕ = r .place in
-    record {
-      nodes = s .nodes;
-      flows = pred (s .flows);
-      rows = s .rows;
-      records = take (recordBytes * p) (s .records) ++ drop (recordBytes * suc p) (s .records);
-      steps = take (stepBytes * firstStep (factsOf s) p) (s .steps) ++ drop (stepBytes * firstStep (factsOf s) (suc p)) (s .steps);
-    }
+withoutFlow r = recut (used (r .table)) (leaving (r .place))
+
+-- the rule on which flow goes
+unfoldable pub leaveRules : List (Removing → Answer)
+leaveRules = (λ r. code15Removing (factsOf (r .table)) (r .place)) ∷ []
 
 unfoldable pub removeAnswer : Removing → Answer
-removeAnswer =
-    firstOf (on (λ r. r .table) tableRules ++ ((λ r. code15Removing (factsOf (r .table)) (r .place)) ∷ [])) noNumber
+removeAnswer = firstOf (on (λ r. r .table) tableRules ++ leaveRules) noNumber
 
 unfoldable pub removeOf : Removing → Changed
 removeOf r =

@@ -19,6 +19,7 @@ pub mod Area
 pub mod SlotCodes
 pub mod Run
 -- The calls, the demands, and the proved cases.
+pub mod Exchange
 pub mod Calls
 pub mod Demands
 pub mod Cases

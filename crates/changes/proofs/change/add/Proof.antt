@@ -1,88 +1,120 @@
--- `admission::change::add` meets its contract: refused before anything is moved, refused by the new table, or done. Assumes nothing.
-use Prim.Native.Nat.{suc}
-use mathlib.Core.Path.{_≡_, _∙_, sym, ap, transport}
+-- `changes::change::add` meets its contract: refused by the old table, by the place or by the new table, or done. Assumes nothing.
+use Prim.Native.Nat.{_*_, _<_}
+use mathlib.Core.Path.{_≡_, sym, _∙_, ap, transport}
 use native.Mathlib.Omega.{arith}
+use lib.ListN.{length}
+use Rattle.trade.specs.Limits.{mostSteps, stepBytes}
 use Rattle.trade.specs.Layout.{Sections}
-use Rattle.trade.specs.Table.{InMemory, tableOf}
+use Rattle.trade.specs.Table.{InMemory, used, tableOf}
 use Rattle.trade.specs.Answers.{firstOf, noNumber}
-use Rattle.trade.specs.Calls.{Adding, withFlow, addOf, addAnswer}
+use Rattle.trade.specs.Exchange.{recut}
+use Rattle.trade.specs.Calls.{Adding, tableRules, withFlow, enterRules, newRules, addAnswer, addOf}
 use Rattle.trade.specs.declared.answer.Answer.{Answer}
-use Rattle.trade.proofs.Used.{table-in-memory}
 use Rattle.table.specs.Table.{sectionsIn}
-use Rattle.changes.specs.Change.{mayAdd, newRules, Grows}
-use Rattle.changes.proofs.GrownLaws.{same-nodes, same-flows, sizes}
-use Rattle.changes.proofs.ChangeLaws.{Enters, enters, grows, grown-roomy, add-early, add-late, add-leaves, add-gives}
+use Rattle.changes.specs.Cut.{exchangeIn, Recuts}
+use Rattle.changes.specs.declared.cut.Exchange.{Exchange}
+use Rattle.changes.proofs.RulesLaws.{enter-count, add-old, add-enter}
+use Rattle.changes.proofs.ChangeLaws.{leaves, gives, Enters, enter-recuts, enter-made, enter-answers}
 use borrow.Author.Needs.{needs}
 use Rattle.changes.proofs.change.add.Statement.{statement}
 use Rattle.changes.proofs.change.add.Tie as tie
 
-is-unfit-requires : tie.Need-is-unfit-requires
-is-unfit-requires c κs = search needs
+-- what the call was handed
+abbrev asked : tie.Start → Adding
+asked s = record { table = sectionsIn (s .args .t1); place = s .args .place; flow = s .args .flow; plan = s .args .plan }
 
-cast-may-add : tie.Need-cast-may-add
-cast-may-add c = search needs
+memory : (s : tie.Start) → InMemory (asked s .table)
+memory s = record { rows = search needs; records = search needs; steps = search needs }
 
-cast-may-add-2 : tie.Need-cast-may-add-2
-cast-may-add-2 c = search needs
+places : (s : tie.Start) → length (asked s .plan) ≡ stepBytes * mostSteps
+places s = search needs
 
-may-add-requires : tie.Need-may-add-requires
-may-add-requires c κs = search needs
+two : (s : tie.Start) → asked s .flow .len < 65536
+two s = search needs
 
--- what the call was handed, and its table in memory
-abbrev asked : tie.After-may-add → Adding
-asked c =
-    record {
-      table = sectionsIn (c .before .before .before .before .before .before .before .before .before .args .t1);
-      place = c .before .before .before .before .before .before .before .before .before .args .place;
-      flow = c .before .before .before .before .before .before .before .before .before .args .flow;
-      plan = c .before .before .before .before .before .before .before .before .before .args .t4;
-    }
+cast-table-answer : tie.Need-cast-table-answer
+cast-table-answer c = search needs
 
-memory : (c : tie.After-may-add) → InMemory (asked c .table)
-memory c = may-add-requires (c .before) (c .may-add .lifetimes)
+cast-table-answer-2 : tie.Need-cast-table-answer-2
+cast-table-answer-2 c = search needs
+
+table-answer-requires : tie.Need-table-answer-requires
+table-answer-requires c κs = search needs
+
+-- the old table has been tested
+abbrev by-old : tie.After-table-answer → Adding
+by-old c = asked (c .before .before .before .before .before .before .before .before)
 
 returns : tie.Need-returns
 unfolding addOf
 returns c =
-    let t = c .before .before in
-    let e = t .may-add .ensures in
-    let u = t .before .before .before .before .before .before .before .before .is-unfit in
-    let n : mayAdd (asked t .table) (asked t .place) (u .result) .code ≡ 0 → ⊥ = λ z. c .if1 .taken (ap (λ (r : Answer). r .code) e ∙ z) in
-    let early = add-early (asked t) (u .result) (memory t) (u .ensures) n in
+    let tested = c .before .before in
+    let old = tested .table-answer .ensures in
+    let e = old ∙ sym (add-old (by-old tested) (λ z. c .if1 .taken (ap (λ (r : Answer). r .code) old ∙ z))) in
+    record { answer = e; table = leaves _ _ _ _ e (c .if1 .taken) }
+
+-- and then the place
+abbrev by-place : tie.After-enter-answer → Adding
+by-place c = by-old (c .before .before .before)
+
+passed : (c : tie.After-enter-answer) → firstOf tableRules noNumber (by-place c .table) .code ≡ 0
+passed c = sym (ap (λ (r : Answer). r .code) (c .before .before .before .table-answer .ensures)) ∙ c .before .if1 .left
+
+enter : (c : tie.After-enter-answer) → c .enter-answer .result ≡ firstOf enterRules noNumber (by-place c)
+enter c = c .enter-answer .ensures ∙ sym (enter-count (by-place c))
+
+cast-enter-answer : tie.Need-cast-enter-answer
+cast-enter-answer c = search needs
+
+enter-answer-requires : tie.Need-enter-answer-requires
+enter-answer-requires c κs = search needs
+
+returns-2 : tie.Need-returns-2
+unfolding addOf
+returns-2 c =
+    let tested = c .before .before in
+    let e = enter tested ∙ sym (add-enter (by-place tested) (passed tested) (λ z. c .if2 .taken (ap (λ (r : Answer). r .code) (enter tested) ∙ z))) in
+    record { answer = e; table = leaves _ _ _ _ e (c .if2 .taken) }
+
+-- so the flow may be put in
+abbrev by-both : tie.After-entering → Adding
+by-both c = by-place (c .before .before .before)
+
+enters : (c : tie.After-entering) → Enters (by-both c)
+enters c =
+    let tested = c .before .before .before in
+    let s = tested .before .before .before .before .before .before .before .before .before .before .before in
     record {
-      answer = e ∙ sym early;
-      table = sym (add-leaves (asked t) (u .result) (λ z. n (sym (ap (λ (r : Answer). r .code) early) ∙ z)));
+      memory = memory s;
+      plan = places s;
+      len = two s;
+      old = passed tested;
+      entered = sym (ap (λ (r : Answer). r .code) (enter tested)) ∙ c .before .if2 .left;
     }
 
--- the newcomer has passed what is tested before anything is moved
-passes : (c : tie.Else1) → Enters (asked (c .before .before)) (c .before .before .before .before .before .before .before .before .before .before .is-unfit .result)
-passes c =
-    let t = c .before .before in
-    enters (asked t) (t .before .before .before .before .before .before .before .before .is-unfit .result) (sym (ap (λ (r : Answer). r .code) (t .may-add .ensures)) ∙ c .if1 .left)
+recuts : (c : tie.After-entering) → Recuts (by-both c .table) (c .entering .result)
+recuts c = transport (λ i. Recuts (by-both c .table) (sym (c .entering .ensures) i)) (enter-recuts (by-both c) (enters c))
 
-slice-aggregate-grown : tie.Need-slice-aggregate-grown
-slice-aggregate-grown c = search needs
+-- and the new table is what it should be
+abbrev entered : tie.After-recut → tie.After-entering
+entered c = c .before .before .before .before .before .before .before .before
 
-opens : (c : tie.After-plan) → Grows (asked (c .before .before .before .before .before .before .before .before .before .before))
-opens c =
-    let t = c .before .before .before .before .before .before .before .before .before .before in
-    let u = t .before .before .before .before .before .before .before .before .is-unfit in
-    grows (asked t) (u .result) (memory t) (sym (slice-aggregate-grown c)) (u .ensures) (passes (c .before .before .before .before .before .before .before .before))
+is-new : (c : tie.After-recut) → sectionsIn (c .recut .result) ≡ tableOf (withFlow (by-both (entered c)))
+is-new c =
+    let a = by-both (entered c) in
+    c .recut .ensures
+    ∙ ap (λ (x : Exchange). tableOf (recut (used (a .table)) (exchangeIn x))) (entered c .entering .ensures)
+    ∙ ap tableOf (enter-made a (enters (entered c)))
 
-grown-requires : tie.Need-grown-requires
-grown-requires c κs = opens c
+answers :
+    (c : tie.After-recut) {r : Answer} → r ≡ firstOf newRules noNumber (sectionsIn (c .recut .result)) → r ≡ addAnswer (by-both (entered c))
+answers c e = e ∙ ap (firstOf newRules noNumber) (is-new c) ∙ enter-answers (by-both (entered c)) (enters (entered c))
 
-counted : (a : Adding) → Grows a → tableOf (withFlow a) .nodes ≡ a .table .nodes
-unfolding tableOf
-counted a g = same-nodes a g
+entering-requires : tie.Need-entering-requires
+entering-requires c κs = search needs
 
-counted-flows : (a : Adding) → Grows a → tableOf (withFlow a) .flows ≡ suc (a .table .flows)
-unfolding tableOf
-counted-flows a g = same-flows a g
-
--- the new table is what it should be, in memory, its counts in range
-is-new : (c : tie.After-grown) → sectionsIn (c .grown .result) ≡ tableOf (withFlow (asked (c .before .before .before .before .before .before .before .before .before .before .before)))
-is-new c = c .grown .ensures
+recut-requires : tie.Need-recut-requires
+recut-requires c κs = recuts (c .before .before .before .before .before .before .before)
 
 cast-new-answer : tie.Need-cast-new-answer
 cast-new-answer c = search needs
@@ -91,61 +123,42 @@ cast-new-answer-2 : tie.Need-cast-new-answer-2
 cast-new-answer-2 c = search needs
 
 new-answer-requires : tie.Need-new-answer-requires
+unfolding tableOf recut used
 new-answer-requires c κs =
-    let b = c .before .before .before .before .before .before .before in
-    let a = asked (b .before .before .before .before .before .before .before .before .before .before .before) in
-    let u = b .before .before .before .before .before .before .before .before .before .before .before .before .before .before .before .before .before .before .before .is-unfit .result in
-    let g = opens (b .before) in
-    (transport (λ i. InMemory (sym (is-new b) i)) (table-in-memory (withFlow a) (grown-roomy a u g)), (omega (arith, ap (λ (s : Sections). s .nodes) (is-new b), counted a g, sizes a g .nodes), omega (arith, ap (λ (s : Sections). s .flows) (is-new b), counted-flows a g, g .room)))
-
--- so its answer is the call's
-answers :
-    (c : tie.After-grown) {r : Answer}
-    → r ≡ firstOf newRules noNumber (sectionsIn (c .grown .result))
-    → r ≡ addAnswer (asked (c .before .before .before .before .before .before .before .before .before .before .before))
-answers c e =
-    let t = c .before .before .before .before .before .before .before .before .before .before .before in
-    e
-    ∙ ap (firstOf newRules noNumber) (is-new c)
-    ∙ add-late (asked t) (t .before .before .before .before .before .before .before .before .is-unfit .result) (opens (c .before)) (passes (c .before .before .before .before .before .before .before .before .before))
-
-returns-2 : tie.Need-returns-2
-unfolding addOf
-returns-2 c =
-    let b = c .before .before .before .before .before .before .before .before .before .before in
-    let t = b .before .before .before .before .before .before .before .before .before .before .before in
-    let u = t .before .before .before .before .before .before .before .before .is-unfit .result in
-    let e = answers b (c .before .before .new-answer .ensures) in
-    record {
-      answer = e;
-      table = sym (add-leaves (asked t) u (λ z. c .if2 .taken (ap (λ (r : Answer). r .code) e ∙ z)));
-    }
+    let made = c .before .before .before .before .before .before .before in
+    let fits = recuts (entered made) in (
+      record { rows = search needs; records = search needs; steps = search needs },
+      (omega (arith, ap (λ (s : Sections). s .nodes) (made .recut .ensures)), omega (arith, ap (λ (s : Sections). s .flows) (made .recut .ensures))),
+    )
 
 returns-3 : tie.Need-returns-3
 unfolding addOf
 returns-3 c =
-    let b = c .before .before .before .before .before .before .before .before .before .before in
-    let t = b .before .before .before .before .before .before .before .before .before .before .before in
-    let u = t .before .before .before .before .before .before .before .before .is-unfit .result in
-    let e = answers b (c .before .before .new-answer .ensures) in
-    record {
-      answer = e;
-      table = is-new b ∙ sym (add-gives (asked t) u (sym (ap (λ (r : Answer). r .code) e) ∙ c .if2 .left));
-    }
+    let e = answers (c .before .before .before .before .before .before .before .before .before .before) (c .before .before .new-answer .ensures) in
+    record { answer = e; table = leaves _ _ _ _ e (c .if3 .taken) }
+
+returns-4 : tie.Need-returns-4
+unfolding addOf
+returns-4 c =
+    let made = c .before .before .before .before .before .before .before .before .before .before in
+    let e = answers made (c .before .before .new-answer .ensures) in
+    record { answer = e; table = is-new made ∙ gives _ _ _ _ e (c .if3 .left) }
 
 pub add-spec : {M : Type 1} → statement M
 add-spec =
     tie.close
     (tie.spec
-    is-unfit-requires
-    cast-may-add
-    cast-may-add-2
-    may-add-requires
+    cast-table-answer
+    cast-table-answer-2
+    table-answer-requires
     returns
-    slice-aggregate-grown
-    grown-requires
+    cast-enter-answer
+    enter-answer-requires
+    returns-2
+    entering-requires
+    recut-requires
     cast-new-answer
     cast-new-answer-2
     new-answer-requires
-    returns-2
-    returns-3)
+    returns-3
+    returns-4)

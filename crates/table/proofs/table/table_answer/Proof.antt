@@ -7,18 +7,17 @@ use mathlib.Core.List.{[], _∷_}
 use denote.Ref.{now}
 use native.Mathlib.Omega.{arith}
 use lib.ListN.{length}
-use Rattle.trade.specs.Limits.{mostNodes, mostFlows, mostSteps, stepBytes}
+use Rattle.trade.specs.Limits.{mostNodes, mostFlows, stepBytes}
 use Rattle.trade.specs.First.{sumTo}
 use Rattle.trade.specs.Layout.{sections, field}
-use Rattle.trade.specs.Facts.{factsOf}
+use Rattle.trade.specs.Facts.{factsOf, firstStep, allSteps}
 use Rattle.trade.specs.Answers.{done, refused, givenFirst, firstOf, noNumber}
-use Rattle.trade.specs.Codes.{outside, badRecord, code3, code5, code6, code8}
+use Rattle.trade.specs.Codes.{outside, code3, code5, code6, code8}
 use Rattle.trade.specs.Calls.{tableRules}
 use Rattle.trade.specs.declared.answer.Answer.{Answer}
 use Rattle.trade.proofs.First.{or-false}
-use Rattle.trade.proofs.Sums.{sum-most}
-use Rattle.trade.proofs.Answers.{firstOf-refuse, firstOf-pass, firstOf-last, given-true, given-false, given-passes, givenFirst-passed}
-use Rattle.trade.proofs.Valid.{sound}
+use Rattle.trade.proofs.Answers.{firstOf-refuse, firstOf-pass, firstOf-last, given-true, given-false, given-passes}
+use Rattle.trade.proofs.Valid.{plans-most}
 use Rattle.book.proofs.PartsLaws.{inside}
 use Rattle.sections.proofs.OwnSections.{code5-rows, code6-records, code8-steps}
 use borrow.Author.Needs.{needs}
@@ -62,13 +61,11 @@ six c = c .records-answer .ensures ∙ code6-records (sections (c .before .befor
 plans-fit :
     (c : tie.Else3)
     → stepBytes * sumTo (λ i. field (now (c .before .before .before .before .before .before .before .before .before .before .before .args .records)) i 4) (c .before .before .before .before .before .before .before .before .before .before .before .args .flows) ≤ length (now (c .before .before .before .before .before .before .before .before .before .before .before .args .steps))
-unfolding code6 factsOf
+unfolding factsOf firstStep allSteps
 plans-fit c =
     let s = sections (c .before .before .before .before .before .before .before .before .before .before .before .args .nodes) (c .before .before .before .before .before .before .before .before .before .before .before .args .flows) (now (c .before .before .before .before .before .before .before .before .before .before .before .args .rows)) (now (c .before .before .before .before .before .before .before .before .before .before .before .args .records)) (now (c .before .before .before .before .before .before .before .before .before .before .before .args .steps)) in
     let done = sym (ap (λ (r : Answer). r .code) (six (c .before .before))) ∙ c .if3 .left in
-    let sum =
-    sum-most (λ i. field (now (c .before .before .before .before .before .before .before .before .before .before .before .args .records)) i 4) mostSteps (c .before .before .before .before .before .before .before .before .before .before .before .args .flows)
-    (λ i h. sound (factsOf s) i (givenFirst-passed 5 (badRecord (factsOf s)) (c .before .before .before .before .before .before .before .before .before .before .before .args .flows) done i h) .len .most) in
+    let sum = plans-most (factsOf s) done in
     omega (arith, sum, few-flows (c .before .before .before .before .before .before), c .before .before .before .before .before .before .before .before .before .before .before .pre .steps)
 
 is-miscounted-requires : tie.Need-is-miscounted-requires

@@ -1,49 +1,69 @@
--- `book::written::trailer_bytes` meets its contract: the ten bytes stand as in the definition. Assumes nothing.
-use mathlib.Core.Path.{refl}
-use Rattle.trade.specs.Bytes.{twoBytes}
-use Rattle.table.specs.Written.{trailerWith}
+-- `table::written::trailer_bytes` meets its contract: three words, and four bytes behind them. Assumes nothing.
 use borrow.Author.Needs.{needs}
+use Rattle.trade.specs.Bytes.{twoBytes}
+use Rattle.numbers.specs.Pasting.{pastedAt}
+use Rattle.table.specs.Written.{trailerWith}
 use Rattle.table.proofs.written.trailer_bytes.Statement.{statement}
 use Rattle.table.proofs.written.trailer_bytes.Tie as tie
 
-cast-t10 : tie.Need-cast-t10
-cast-t10 c = search needs
+slice-aggregate-put-word : tie.Need-slice-aggregate-put-word
+slice-aggregate-put-word c = search needs
 
-cast-t12 : tie.Need-cast-t12
-cast-t12 c = search needs
+put-word-requires : tie.Need-put-word-requires
+put-word-requires c κs = search needs
 
-cast-t15 : tie.Need-cast-t15
-cast-t15 c = search needs
+slice-aggregate-put-word-2 : tie.Need-slice-aggregate-put-word-2
+slice-aggregate-put-word-2 c = search needs
 
-cast-t17 : tie.Need-cast-t17
-cast-t17 c = search needs
+put-word-requires-2 : tie.Need-put-word-requires-2
+put-word-requires-2 c κs = search needs
 
-cast-t20 : tie.Need-cast-t20
-cast-t20 c = search needs
+slice-aggregate-put-word-3 : tie.Need-slice-aggregate-put-word-3
+slice-aggregate-put-word-3 c = search needs
 
-cast-t22 : tie.Need-cast-t22
-cast-t22 c = search needs
+put-word-requires-3 : tie.Need-put-word-requires-3
+put-word-requires-3 c κs = search needs
 
-array-read-t25 : tie.Need-array-read-t25
-array-read-t25 c = search needs
+array-write-trailer : tie.Need-array-write-trailer
+array-write-trailer c = search needs
 
-array-read-t28 : tie.Need-array-read-t28
-array-read-t28 c = search needs
+array-write-trailer-2 : tie.Need-array-write-trailer-2
+array-write-trailer-2 c = search needs
+
+array-read-trailer : tie.Need-array-read-trailer
+array-read-trailer c = search needs
+
+array-write-trailer-3 : tie.Need-array-write-trailer-3
+array-write-trailer-3 c = search needs
+
+array-read-trailer-2 : tie.Need-array-read-trailer-2
+array-read-trailer-2 c = search needs
+
+array-write-trailer-4 : tie.Need-array-write-trailer-4
+array-write-trailer-4 c = search needs
 
 returns : tie.Need-returns
-unfolding trailerWith twoBytes
-returns c = refl
+unfolding pastedAt twoBytes trailerWith
+returns c =
+    let e₃ = c .before .put-word3 .ensures in
+    let e₂ = c .before .before .before .before .put-word2 .ensures in
+    let e₁ = c .before .before .before .before .before .before .before .put-word .ensures in
+    rw (e₃, e₂, e₁)
 
 pub trailer-bytes-spec : {M : Type 1} → statement M
 trailer-bytes-spec =
     tie.close
     (tie.spec
-    cast-t10
-    cast-t12
-    cast-t15
-    cast-t17
-    cast-t20
-    cast-t22
-    array-read-t25
-    array-read-t28
+    slice-aggregate-put-word
+    put-word-requires
+    slice-aggregate-put-word-2
+    put-word-requires-2
+    slice-aggregate-put-word-3
+    put-word-requires-3
+    array-write-trailer
+    array-write-trailer-2
+    array-read-trailer
+    array-write-trailer-3
+    array-read-trailer-2
+    array-write-trailer-4
     returns)

@@ -1,0 +1,64 @@
+-- `changes::cut::splice` meets its contract: three parts are put one behind the other. Assumes nothing.
+use mathlib.Core.Path.{_≡_, sym}
+use denote.Ref.{now}
+use native.Mathlib.Omega.{arith}
+use lib.ListN.{length, take}
+use lib.Seq.{length-take-le}
+use Rattle.changes.proofs.CutLaws.{splice-in-turn}
+use borrow.Author.Needs.{needs}
+use Rattle.changes.proofs.cut.splice.Statement.{statement}
+use Rattle.changes.proofs.cut.splice.Tie as tie
+
+front : (s : tie.Start) → length (take (s .args .from) (now (s .args .old))) ≡ s .args .from
+front s = length-take-le _ _ (omega arith)
+
+slice-aggregate-put-at : tie.Need-slice-aggregate-put-at
+slice-aggregate-put-at c = sym (front (c .before .before .before .before .before))
+
+put-at-requires : tie.Need-put-at-requires
+put-at-requires c κs = omega (arith, front (c .before .before .before .before .before))
+
+put-at-requires-2 : tie.Need-put-at-requires-2
+put-at-requires-2 c κs = search needs
+
+add-put-at : tie.Need-add-put-at
+add-put-at c = search needs
+
+sub-put-at : tie.Need-sub-put-at
+sub-put-at c = search needs
+
+part-put-at-start : tie.Need-part-put-at-start
+part-put-at-start c = search needs
+
+part-put-at-end : tie.Need-part-put-at-end
+part-put-at-end c = search needs
+
+put-at-requires-3 : tie.Need-put-at-requires-3
+put-at-requires-3 c κs = search needs
+
+same-length : tie.Need-same-length
+same-length c = search needs
+
+returns : tie.Need-returns
+returns c =
+    let third = c .before .before in
+    let second = third .before .before .before .before .before in
+    let first = second .before .before .before .before in
+    let a = first .before .before .before .before .before .before .args in
+    splice-in-turn (a .from) (a .to) (now (a .new)) (now (a .old)) (now (a .out)) (first .put-at .last .0) (second .put-at2 .last .0)
+    (third .put-at3 .last .0) (omega arith) (first .put-at .ensures) (second .put-at2 .ensures) (third .put-at3 .ensures)
+
+pub splice-spec : {M : Type 1} → statement M
+splice-spec =
+    tie.close
+    (tie.spec
+    slice-aggregate-put-at
+    put-at-requires
+    put-at-requires-2
+    add-put-at
+    sub-put-at
+    part-put-at-start
+    part-put-at-end
+    put-at-requires-3
+    same-length
+    returns)

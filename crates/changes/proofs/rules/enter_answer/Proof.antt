@@ -1,0 +1,45 @@
+-- `changes::rules::enter_answer` meets its contract: each answer stands behind the tests that led to it. Assumes nothing.
+use mathlib.Core.Path.{sym, _∙_}
+use borrow.Author.Needs.{needs}
+use borrow.Author.Tests.{eq-eqb, ne-eqb, lt-ltb, le-ltb}
+use Rattle.trade.specs.Facts.{factsOf}
+use Rattle.trade.specs.Answers.{isDone, given, noNumber}
+use Rattle.trade.specs.Codes.{code14, code15Adding}
+use Rattle.trade.proofs.Answers.{firstOf-rule, passed-none, passed-more, passed-done}
+use Rattle.changes.proofs.rules.enter_answer.Statement.{statement}
+use Rattle.changes.proofs.rules.enter_answer.Tie as tie
+
+refused-requires : tie.Need-refused-requires
+refused-requires c κs = search needs
+
+returns : tie.Need-returns
+unfolding isDone code14 given factsOf
+returns c = c .refused .ensures ∙ sym (firstOf-rule code14 _ noNumber _ ∙ rw (eq-eqb _ _ (c .before .if1 .taken)))
+
+refused-requires-2 : tie.Need-refused-requires-2
+refused-requires-2 c κs = search needs
+
+returns-2 : tie.Need-returns-2
+unfolding isDone code14 code15Adding given factsOf
+returns-2 c =
+    c .refused2 .ensures
+    ∙ sym
+    (firstOf-rule code14 _ noNumber _
+    ∙ rw (ne-eqb _ _ (c .before .before .if1 .left))
+    (firstOf-rule _ _ noNumber _ ∙ rw (lt-ltb _ _ (c .before .if2 .taken))))
+
+done-requires : tie.Need-done-requires
+done-requires c κs = search needs
+
+returns-3 : tie.Need-returns-3
+unfolding code14 code15Adding given factsOf
+returns-3 c =
+    c .done .ensures
+    ∙ sym
+    (passed-done noNumber
+    (passed-more (rw (ne-eqb _ _ (c .before .before .if1 .left))) (passed-more (rw (le-ltb _ _ (c .before .if2 .left))) passed-none)))
+
+pub enter-answer-spec : {M : Type 1} → statement M
+enter-answer-spec =
+    tie.close
+    (tie.spec refused-requires returns refused-requires-2 returns-2 done-requires returns-3)

@@ -1,0 +1,62 @@
+// The rules of a change behind those on the old table: where a flow comes in or which goes, and those on the new table.
+ghost use mathlib.Core.Path.{_≡_};
+ghost use mathlib.Core.List.{[], _∷_};
+ghost use Prim.Native.Nat.{_≤_};
+ghost use Rattle.trade.specs.Limits.{mostNodes, mostFlows};
+ghost use Rattle.trade.specs.Layout.{sections};
+ghost use Rattle.trade.specs.Facts.{factsIn};
+ghost use Rattle.trade.specs.Table.{InMemory};
+ghost use Rattle.trade.specs.Answers.{firstOf, noNumber};
+ghost use Rattle.trade.specs.Codes.{code14, code15Adding, code15Removing};
+ghost use Rattle.trade.specs.Calls.{newRules};
+use bounds::bounds::bounds_of;
+use sections::records::records_answer;
+use sections::steps::steps_answer;
+use trade::Answer;
+use trade::Flow;
+
+// Codes 14 and 15 on where a flow comes in: the table is full, or the place is past the one behind its last flow.
+pub(crate) fn enter_answer(flows: usize, place: usize) -> Answer
+    ensures { λ r. ⌜ r ≡ firstOf (code14 ∷ (λ f. code15Adding f place) ∷ []) noNumber (factsIn 0 flows [] [] []) ⌝ }
+{
+    if flows == Flow::MOST {
+        return Answer::refused(14, 0);
+    }
+    if flows < place {
+        return Answer::refused(15, 0);
+    }
+    Answer::done(0)
+}
+
+// Code 15 on which flow goes: the place has none.
+pub(crate) fn leave_answer(flows: usize, place: usize) -> Answer
+    ensures { λ r. ⌜ r ≡ code15Removing (factsIn 0 flows [] [] []) place ⌝ }
+{
+    if flows <= place {
+        return Answer::refused(15, 0);
+    }
+    Answer::done(0)
+}
+
+// Codes 6, 8 and 9 on the new table, every flow tested.
+pub(crate) fn new_answer<'a>(
+    nodes: usize,
+    flows: usize,
+    rows: &'a [u8],
+    records: &'a [u8],
+    steps: &'a [u8],
+) -> Answer
+    requires { ⌜ InMemory (sections nodes flows (now rows) (now records) (now steps)) ⌝ }
+    requires { ⌜ (nodes ≤ mostNodes) × (flows ≤ mostFlows) ⌝ }
+    ensures { λ r. ⌜ r ≡ firstOf newRules noNumber (sections nodes flows (now (rows .entry)) (now (records .entry)) (now (steps .entry))) ⌝ }
+{
+    let named = records_answer(flows, records);
+    if named.code != 0 {
+        return named;
+    }
+    let stepped = steps_answer(nodes, flows, records, steps);
+    if stepped.code != 0 {
+        return stepped;
+    }
+    bounds_of(flows, rows, records, steps).answer
+}

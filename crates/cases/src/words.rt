@@ -21,15 +21,7 @@ use trade::Plan;
 fn edited(t: Table, word: u8, at: usize, n: u8) -> Table {
     let mut table = t;
     match word {
-        b'C' => {
-            table = table_of(
-                Node::MOST as u8,
-                Flow::MOST as u8,
-                b"",
-                &RECORDS,
-                &PLAN,
-            )
-        }
+        b'C' => { table = table_of(Node::MOST as u8, Flow::MOST as u8, b"", &RECORDS, &PLAN) }
         b'N' => table.nodes = n,
         b'M' => table.flows = n,
         b'R' => table.rows[at % (Node::MOST * Node::ROW_BYTES)] = n,

@@ -1,4 +1,4 @@
--- `admission::figures::figures_at` meets its contract either way: the square has the same figures. Assumes nothing.
+-- `figures::figures::figures_at` meets its contract either way: the square has the same figures. Assumes nothing.
 use mathlib.Core.Path.{_∙_}
 use denote.Ref.{now}
 use native.Mathlib.Omega.{arith}

@@ -1,4 +1,4 @@
--- `admission::figures::figures_in` meets its contract: the figures passed stand in the array. Assumes nothing.
+-- `figures::figures::figures_in` meets its contract: the figures passed stand in the array. Assumes nothing.
 use Prim.Native.Nat.{_+_, _-_, _*_, _≤_}
 use mathlib.Core.Path.{_≡_, sym, _∙_, ap}
 use native.Mathlib.Omega.{arith}

@@ -1,4 +1,4 @@
--- `admission::figures::figures_of` meets its contract: the figures passed stand in the array. Assumes nothing.
+-- `figures::figures::figures_of` meets its contract: the figures passed stand in the array. Assumes nothing.
 use Prim.Native.Nat.{ℕ, _+_, _-_, _≤_}
 use mathlib.Core.Path.{_≡_, refl, sym, _∙_, ap, ap₂}
 use mathlib.Core.List.{List}

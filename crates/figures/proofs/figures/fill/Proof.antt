@@ -1,4 +1,4 @@
--- `admission::figures::fill` works the figures out, plan by plan. The loop's invariant: those on the flows above l are filled in. The
+-- `figures::figures::fill` works the figures out, plan by plan. The loop's invariant: those on the flows above l are filled in. The
 -- measure is how many flows are left. Assumes nothing.
 use Prim.Native.Nat.{ℕ, _-_, _*_, _≤_, _<_}
 use mathlib.Core.Path.{_≡_, refl, _∙_, ap, ap₂}

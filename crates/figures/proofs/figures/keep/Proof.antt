@@ -1,4 +1,4 @@
--- `admission::figures::keep` gathers the columns of the flow's plan and fills its figures in, if there is a square. Assumes nothing.
+-- `figures::figures::keep` gathers the columns of the flow's plan and fills its figures in, if there is a square. Assumes nothing.
 use mathlib.Core.Path.{refl}
 use denote.Ref.{now}
 use native.Mathlib.Omega.{arith}

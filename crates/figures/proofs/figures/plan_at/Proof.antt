@@ -1,4 +1,4 @@
--- `admission::figures::plan_at` cuts out the plan that the records say. Assumes nothing.
+-- `figures::figures::plan_at` cuts out the plan that the records say. Assumes nothing.
 use mathlib.Core.Path.{_∙_, ap₂}
 use denote.Ref.{now}
 use Rattle.plans.specs.Plan.{planIn}

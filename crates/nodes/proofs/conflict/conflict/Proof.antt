@@ -1,4 +1,4 @@
--- `plans::conflict::conflict` asks the three tests that the definition joins. Assumes nothing.
+-- `nodes::conflict::conflict` asks the three tests that the definition joins. Assumes nothing.
 use borrow.Author.Needs.{needs}
 use Rattle.trade.specs.Conflict.{conflict}
 use Rattle.nodes.proofs.conflict.conflict.Statement.{statement}

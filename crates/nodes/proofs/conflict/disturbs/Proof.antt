@@ -1,4 +1,4 @@
--- `plans::conflict::disturbs` reads the bit that the definition names. Assumes nothing.
+-- `nodes::conflict::disturbs` reads the bit that the definition names. Assumes nothing.
 use Rattle.trade.specs.Bytes.{bit}
 use Rattle.trade.specs.Facts.{disturbsIn}
 use borrow.Author.Needs.{needs}

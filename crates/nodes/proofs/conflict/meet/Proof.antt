@@ -1,4 +1,4 @@
--- `plans::conflict::meet` is the definition, test by test. Assumes nothing.
+-- `nodes::conflict::meet` is the definition, test by test. Assumes nothing.
 use mathlib.Core.Path.{refl}
 use Rattle.trade.specs.Conflict.{meet}
 use Rattle.nodes.proofs.conflict.meet.Statement.{statement}

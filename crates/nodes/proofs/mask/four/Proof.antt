@@ -1,4 +1,4 @@
--- `plans::mask::four` joins two halves, each of which fits. Assumes nothing.
+-- `nodes::mask::four` joins two halves, each of which fits. Assumes nothing.
 use mathlib.Core.Path.{sym, _∙_, ap₂}
 use Prim.Native.Nat.{ℕ, _+_, _*_, _^_}
 use native.Mathlib.Omega.{arith}

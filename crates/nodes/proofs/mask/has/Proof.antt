@@ -1,4 +1,4 @@
--- `plans::mask::has` reads one bit. Assumes nothing.
+-- `nodes::mask::has` reads one bit. Assumes nothing.
 use mathlib.Core.Path.{refl}
 use Rattle.trade.specs.Bytes.{bit}
 use borrow.Author.Needs.{needs}

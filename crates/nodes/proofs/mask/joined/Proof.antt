@@ -1,4 +1,4 @@
--- `plans::mask::joined`: what is shifted past the lower part has no bit in common with it. Assumes nothing.
+-- `nodes::mask::joined`: what is shifted past the lower part has no bit in common with it. Assumes nothing.
 
 use native.Mathlib.Nat.{mod-eq-of-lt}
 use lib.Bits.{or-shifted}

@@ -1,4 +1,4 @@
--- `plans::mask::only` sets one bit, which fits. Assumes nothing.
+-- `nodes::mask::only` sets one bit, which fits. Assumes nothing.
 use native.Mathlib.Omega.{arith}
 use borrow.Author.Needs.{needs}
 use Rattle.nodes.proofs.MaskLaws.{one-bit}

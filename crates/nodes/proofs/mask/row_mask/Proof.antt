@@ -1,4 +1,4 @@
--- `plans::mask::row_mask` is the eight bytes of the row. Assumes nothing.
+-- `nodes::mask::row_mask` is the eight bytes of the row. Assumes nothing.
 use Rattle.nodes.specs.Mask.{rowMask}
 use borrow.Author.Needs.{needs}
 use Rattle.nodes.proofs.mask.row_mask.Statement.{statement}

@@ -1,4 +1,4 @@
--- `plans::mask::two` joins two bytes. Assumes nothing.
+-- `nodes::mask::two` joins two bytes. Assumes nothing.
 use mathlib.Core.Path.{sym, _∙_}
 use Prim.Native.Nat.{_+_}
 use native.Mathlib.Omega.{arith}

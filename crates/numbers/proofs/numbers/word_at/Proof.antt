@@ -1,4 +1,4 @@
--- `book::numbers::word_at` meets its contract: a byte is below 256, so two fit in 16 bits. Assumes nothing.
+-- `numbers::numbers::word_at` meets its contract: a byte is below 256, so two fit in 16 bits. Assumes nothing.
 use borrow.Author.Needs.{needs}
 use native.Mathlib.Omega.{arith}
 use Prim.Native.Nat.{_+_}

@@ -1,4 +1,4 @@
--- `plans::columns::disturbers` spreads each node over the nodes of its row. The loop's invariant: the rows before x have been spread. The
+-- `pairs::columns::disturbers` spreads each node over the nodes of its row. The loop's invariant: the rows before x have been spread. The
 -- measure is how many are left. Assumes nothing.
 use Prim.Native.Nat.{ℕ, _-_, _≤_}
 use mathlib.Core.Path.{_≡_, refl, sym}

@@ -1,4 +1,4 @@
--- `plans::columns::figure` works the steps of l in, the last first. The loop's invariant: the set counts what is reached from step i on.
+-- `pairs::columns::figure` works the steps of l in, the last first. The loop's invariant: the set counts what is reached from step i on.
 -- The measure is i. Assumes nothing.
 use Prim.Native.Nat.{ℕ, suc, _-_, _^_, _≤_, _<_}
 use mathlib.Core.Path.{_≡_, _∙_}

@@ -1,4 +1,4 @@
--- `plans::columns::gather` notes the steps from the last on. The loop's invariant: the columns hold the last b steps, and what lies beyond
+-- `pairs::columns::gather` notes the steps from the last on. The loop's invariant: the columns hold the last b steps, and what lies beyond
 -- them is as lent. The measure is how many steps are left. Assumes nothing.
 use Prim.Native.Nat.{ℕ, suc, _-_, _≤_}
 use mathlib.Core.Path.{_≡_, refl, _∙_}

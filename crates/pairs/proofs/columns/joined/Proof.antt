@@ -1,4 +1,4 @@
--- `plans::columns::joined` takes a row of marks into a set. The loop's invariant: all marks below some place are in. The measure is how
+-- `pairs::columns::joined` takes a row of marks into a set. The loop's invariant: all marks below some place are in. The measure is how
 -- far the lowest mark that is not in lies below the top. Assumes nothing.
 use Prim.Native.Nat.{ℕ, suc, _-_, _^_, _<_}
 use mathlib.Core.Path.{_≡_, refl}

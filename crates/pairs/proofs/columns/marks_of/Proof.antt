@@ -1,4 +1,4 @@
--- `plans::columns::marks_of` reads the columns of the two nodes. Assumes nothing.
+-- `pairs::columns::marks_of` reads the columns of the two nodes. Assumes nothing.
 use native.Mathlib.Omega.{arith}
 use lib.ListN.{getD}
 use Rattle.pairs.specs.Columns.{markedAt}

@@ -1,4 +1,4 @@
--- `plans::columns::nodes_of` is the smaller of two counts. Assumes nothing.
+-- `pairs::columns::nodes_of` is the smaller of two counts. Assumes nothing.
 use native.Mathlib.Omega.{arith}
 use Rattle.pairs.proofs.columns.nodes_of.Statement.{statement}
 use Rattle.pairs.proofs.columns.nodes_of.Tie as tie

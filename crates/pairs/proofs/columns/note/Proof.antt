@@ -1,4 +1,4 @@
--- `plans::columns::note` spreads a step's two marks. Assumes nothing.
+-- `pairs::columns::note` spreads a step's two marks. Assumes nothing.
 use Prim.Native.Nat.{ℕ, _+_}
 use mathlib.Core.Path.{_∙_, ap}
 use mathlib.Core.Bool.{Bool, _||_}

@@ -1,4 +1,4 @@
--- `plans::columns::spread` sets the mark at the lowest node that is left, and goes on without it. The loop's invariant: the nodes that are
+-- `pairs::columns::spread` sets the mark at the lowest node that is left, and goes on without it. The loop's invariant: the nodes that are
 -- not left have the mark. The measure is what is left, as a number. Assumes nothing.
 use Prim.Native.Nat.{ℕ, _-_, _≤_, _<_}
 use mathlib.Core.Path.{_≡_}

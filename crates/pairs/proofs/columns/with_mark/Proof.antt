@@ -1,4 +1,4 @@
--- `plans::columns::with_mark` takes one mark into a set. Assumes nothing.
+-- `pairs::columns::with_mark` takes one mark into a set. Assumes nothing.
 use native.Mathlib.Omega.{arith}
 use Rattle.nodes.proofs.MaskLaws.{one-bit}
 use Rattle.pairs.proofs.JoinedLaws.{marked}

@@ -1,4 +1,4 @@
--- `plans::interference::best_of` is the larger of two figures. Assumes nothing.
+-- `pairs::interference::best_of` is the larger of two figures. Assumes nothing.
 use mathlib.Core.Path.{sym}
 use native.Mathlib.Omega.{arith}
 use native.Mathlib.Nat.{max-eq-left, max-eq-right}

@@ -1,4 +1,4 @@
--- `plans::interference::interference` works the steps of h into the line, the last first. The loop's invariant: the line holds the worst
+-- `pairs::interference::interference` works the steps of h into the line, the last first. The loop's invariant: the line holds the worst
 -- counts over the steps of h from j on. The measure is j. Assumes nothing.
 use Prim.Native.Nat.{suc, _-_}
 use mathlib.Core.Path.{_≡_}

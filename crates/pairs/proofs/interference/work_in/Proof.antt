@@ -1,4 +1,4 @@
--- `plans::interference::work_in` works one column into the line, the marks asked of a set that holds the one step of h. The loop's
+-- `pairs::interference::work_in` works one column into the line, the marks asked of a set that holds the one step of h. The loop's
 -- invariant: the steps of l from i on have their figures, those before i and those past the plan are as lent. The measure is i.
 -- Assumes nothing.
 use Prim.Native.Nat.{ℕ, suc, _-_}

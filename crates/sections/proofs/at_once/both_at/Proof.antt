@@ -1,4 +1,4 @@
--- `book::at_once::both_at` meets its contract: the lower byte is below 256. Assumes nothing.
+-- `sections::at_once::both_at` meets its contract: the lower byte is below 256. Assumes nothing.
 use native.Mathlib.Omega.{arith}
 use Prim.Native.Nat.{_+_, _*_}
 use Rattle.trade.specs.Facts.{stepIn}

@@ -1,4 +1,4 @@
--- `book::at_once::count_anew` meets its contract: it has counted the plans before i. Assumes nothing.
+-- `sections::at_once::count_anew` meets its contract: it has counted the plans before i. Assumes nothing.
 use Prim.Native.Nat.{ℕ, _+_, _-_, _*_, _≤_}
 use mathlib.Core.Path.{_≡_, refl, _∙_, ap}
 use denote.Ref.{now}

@@ -1,4 +1,4 @@
--- `book::at_once::count_off` meets its contract: it has counted the steps before k. Assumes nothing.
+-- `sections::at_once::count_off` meets its contract: it has counted the steps before k. Assumes nothing.
 use Prim.Native.Nat.{ℕ, _≤_, _-_, _/_, _%_}
 use mathlib.Core.Path.{_≡_, refl, sym, _∙_, ap}
 use denote.Ref.{now}

@@ -1,4 +1,4 @@
--- `book::at_once::counted` meets its contract, by either case. Assumes nothing.
+-- `sections::at_once::counted` meets its contract, by either case. Assumes nothing.
 use mathlib.Core.Path.{refl}
 use native.Mathlib.Omega.{arith}
 use Rattle.trade.specs.Interference.{one}

@@ -1,4 +1,4 @@
--- `book::at_once::counts_agree` meets its contract: no step is bad if every node is there and the counts agree. Assumes nothing.
+-- `sections::at_once::counts_agree` meets its contract: no step is bad if every node is there and the counts agree. Assumes nothing.
 use Prim.Native.Nat.{_*_, _≤_}
 use mathlib.Core.Path.{refl, sym, _∙_, ap}
 use mathlib.Core.List.{[]}

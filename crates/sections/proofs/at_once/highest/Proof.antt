@@ -1,4 +1,4 @@
--- `book::at_once::highest` meets its contract: no byte before k is above the highest so far. Assumes nothing.
+-- `sections::at_once::highest` meets its contract: no byte before k is above the highest so far. Assumes nothing.
 use Prim.Native.Nat.{ℕ, _≤_, _<_, _-_}
 use mathlib.Core.Logic.{⊎-elim}
 use borrow.Author.Count.{below-more}

@@ -1,4 +1,4 @@
--- `book::at_once::is_off` meets its contract: two steps are the same if their numbers are. Assumes nothing.
+-- `sections::at_once::is_off` meets its contract: two steps are the same if their numbers are. Assumes nothing.
 use mathlib.Core.Path.{refl}
 use Rattle.trade.specs.Codes.{repeats, goesOn}
 use Rattle.sections.specs.Steps.{unjoined, own, off}

@@ -1,4 +1,4 @@
--- `book::at_once::starts_anew` meets its contract: a plan with a step has a first one. Assumes nothing.
+-- `sections::at_once::starts_anew` meets its contract: a plan with a step has a first one. Assumes nothing.
 use Prim.Native.Nat.{_-_}
 use mathlib.Core.Path.{_≡_, refl}
 use mathlib.Core.Logic.{⊎-elim}

@@ -1,4 +1,4 @@
--- `book::records::flow_of` meets its contract: each field is the word at its place. Assumes nothing.
+-- `sections::records::flow_of` meets its contract: each field is the word at its place. Assumes nothing.
 use borrow.Author.Needs.{needs}
 use Rattle.trade.specs.Layout.{field}
 use Rattle.trade.specs.Facts.{flowIn}

@@ -1,4 +1,4 @@
--- `book::records::has_bad_record` meets its contract: no record before i is bad where it says so, and the lower bytes of their ids are
+-- `sections::records::has_bad_record` meets its contract: no record before i is bad where it says so, and the lower bytes of their ids are
 -- marked. Assumes nothing.
 use Prim.Native.Nat.{ℕ, _≤_, _<_, _-_, _%_}
 use mathlib.Core.Path.{_≡_, refl, _∙_, sym}

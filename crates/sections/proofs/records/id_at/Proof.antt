@@ -1,4 +1,4 @@
--- `book::records::id_at` meets its contract: the id is a record's first field. Assumes nothing.
+-- `sections::records::id_at` meets its contract: the id is a record's first field. Assumes nothing.
 use borrow.Author.Needs.{needs}
 use denote.Ref.{now}
 use mathlib.Core.Path.{_∙_}

@@ -1,4 +1,4 @@
--- `book::records::id_before` meets its contract: no record before j has the id. Assumes nothing.
+-- `sections::records::id_before` meets its contract: no record before j has the id. Assumes nothing.
 use Prim.Native.Nat.{ℕ, _≤_, _<_, _-_}
 use mathlib.Core.Path.{_≡_, _∙_, sym, ap}
 use mathlib.Core.Bool.{false}

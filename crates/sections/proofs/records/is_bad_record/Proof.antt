@@ -1,4 +1,4 @@
--- `book::records::is_bad_record` meets its contract: the two tests are those of code 6. Assumes nothing.
+-- `sections::records::is_bad_record` meets its contract: the two tests are those of code 6. Assumes nothing.
 use denote.Ref.{now}
 use Rattle.sections.proofs.RecordsLaws.{bad-record}
 use borrow.Author.Needs.{needs}

@@ -1,4 +1,4 @@
--- `book::records::is_misfit` meets its contract: it joins the tests of the five fields. Assumes nothing.
+-- `sections::records::is_misfit` meets its contract: it joins the tests of the five fields. Assumes nothing.
 use borrow.Author.Needs.{needs}
 use Rattle.sections.specs.Records.{misfit}
 use Rattle.sections.proofs.records.is_misfit.Statement.{statement}

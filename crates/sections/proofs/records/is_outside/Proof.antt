@@ -1,4 +1,4 @@
--- `book::records::is_outside` meets its contract, on either side of its `||`. Assumes nothing.
+-- `sections::records::is_outside` meets its contract, on either side of its `||`. Assumes nothing.
 use borrow.Author.Tests.{lt-ltb, le-ltb}
 use Rattle.trade.specs.Codes.{outside}
 use Rattle.sections.proofs.records.is_outside.Statement.{statement}

@@ -1,4 +1,4 @@
--- `book::records::is_repeat` meets its contract: without a search nothing is found, as it requires. Assumes nothing.
+-- `sections::records::is_repeat` meets its contract: without a search nothing is found, as it requires. Assumes nothing.
 use mathlib.Core.Path.{sym}
 use borrow.Author.Needs.{needs}
 use Rattle.sections.proofs.records.is_repeat.Statement.{statement}

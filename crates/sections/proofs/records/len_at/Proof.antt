@@ -1,4 +1,4 @@
--- `book::records::len_at` meets its contract: L is a record's fifth field. Assumes nothing.
+-- `sections::records::len_at` meets its contract: L is a record's fifth field. Assumes nothing.
 use borrow.Author.Needs.{needs}
 use native.Mathlib.Omega.{arith}
 use Rattle.trade.specs.Layout.{field}

@@ -1,4 +1,4 @@
--- `book::records::record_at` meets its contract: the part that starts at the record has it in front. Assumes nothing.
+-- `sections::records::record_at` meets its contract: the part that starts at the record has it in front. Assumes nothing.
 use borrow.Author.Needs.{needs}
 use denote.Ref.{now}
 use Prim.Native.Nat.{ℕ, _*_}

@@ -1,4 +1,4 @@
--- `book::records::records_answer` meets its contract: no record is bad if none is found at once, and if one is a search tells. Assumes
+-- `sections::records::records_answer` meets its contract: no record is bad if none is found at once, and if one is a search tells. Assumes
 -- nothing.
 use mathlib.Core.Path.{_∙_, sym}
 use borrow.Author.Needs.{needs}

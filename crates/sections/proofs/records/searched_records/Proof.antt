@@ -1,4 +1,4 @@
--- `book::records::searched_records` meets its contract: no record before i is bad. Assumes nothing.
+-- `sections::records::searched_records` meets its contract: no record before i is bad. Assumes nothing.
 use Prim.Native.Nat.{ℕ, _≤_, _<_, _-_}
 use mathlib.Core.Path.{_≡_, refl, _∙_, sym}
 use mathlib.Core.Bool.{false}

@@ -1,4 +1,4 @@
--- `book::records::steps_before` meets its contract: the sum is that of the plans passed. Assumes nothing.
+-- `sections::records::steps_before` meets its contract: the sum is that of the plans passed. Assumes nothing.
 use Prim.Native.Nat.{ℕ, _≤_, _+_, _-_, _*_}
 use mathlib.Core.Path.{_≡_, refl, _∙_, ap, ap₂}
 use native.Mathlib.Numerals.{add-one}

@@ -1,4 +1,4 @@
--- `book::rows::has_above` meets its contract: the two shifts are one by n. Assumes nothing.
+-- `sections::rows::has_above` meets its contract: the two shifts are one by n. Assumes nothing.
 use Prim.Native.Nat.{_+_, _-_}
 use mathlib.Core.Path.{_≡_, refl}
 use native.Mathlib.Omega.{arith}

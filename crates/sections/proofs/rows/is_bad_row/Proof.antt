@@ -1,4 +1,4 @@
--- `book::rows::is_bad_row` meets its contract: the row's own bit, or one at or above n. Assumes nothing.
+-- `sections::rows::is_bad_row` meets its contract: the row's own bit, or one at or above n. Assumes nothing.
 use denote.Ref.{now}
 use native.Mathlib.Omega.{arith}
 use Rattle.trade.specs.Bytes.{bit}

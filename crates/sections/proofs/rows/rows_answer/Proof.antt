@@ -1,4 +1,4 @@
--- `book::rows::rows_answer` meets its contract: no row before x is bad. Assumes nothing.
+-- `sections::rows::rows_answer` meets its contract: no row before x is bad. Assumes nothing.
 use Prim.Native.Nat.{ℕ, _≤_, _<_, _-_}
 use mathlib.Core.Path.{_≡_, _∙_, sym}
 use mathlib.Core.Bool.{false}

@@ -1,4 +1,4 @@
--- `book::steps::first_bad_step` meets its contract: no step before j is bad. Assumes nothing.
+-- `sections::steps::first_bad_step` meets its contract: no step before j is bad. Assumes nothing.
 use Prim.Native.Nat.{ℕ, _≤_, _<_, _-_}
 use mathlib.Core.Path.{_≡_, _∙_, sym}
 use mathlib.Core.Bool.{false}

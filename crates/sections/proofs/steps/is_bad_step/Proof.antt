@@ -1,4 +1,4 @@
--- `book::steps::is_bad_step` meets its contract: the first step of a plan is tested by itself, a later one with the step before.
+-- `sections::steps::is_bad_step` meets its contract: the first step of a plan is tested by itself, a later one with the step before.
 -- Assumes nothing.
 use borrow.Author.Needs.{needs}
 use borrow.Author.Tests.{ne-eqb}

@@ -1,4 +1,4 @@
--- `book::steps::is_misplaced` meets its contract: each of the three tests stands as in the definition. Assumes nothing.
+-- `sections::steps::is_misplaced` meets its contract: each of the three tests stands as in the definition. Assumes nothing.
 use mathlib.Core.Path.{refl}
 use Rattle.sections.specs.Steps.{misplaced}
 use borrow.Author.Needs.{needs}

@@ -1,4 +1,4 @@
--- `book::steps::is_unjoined` meets its contract: the tests stand as in the definition. Assumes nothing.
+-- `sections::steps::is_unjoined` meets its contract: the tests stand as in the definition. Assumes nothing.
 use mathlib.Core.Path.{refl}
 use Rattle.sections.specs.Steps.{unjoined}
 use Rattle.trade.specs.Codes.{repeats, goesOn}

@@ -1,4 +1,4 @@
--- `book::steps::searched_steps` meets its contract: no step of the plans passed is bad. Assumes nothing.
+-- `sections::steps::searched_steps` meets its contract: no step of the plans passed is bad. Assumes nothing.
 use Prim.Native.Nat.{ℕ, _≤_, _<_, _+_, _-_, _*_}
 use mathlib.Core.Path.{_≡_, refl, _∙_, sym, ap, ap₂}
 use mathlib.Core.Bool.{false}

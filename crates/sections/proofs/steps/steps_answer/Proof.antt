@@ -1,4 +1,4 @@
--- `book::steps::steps_answer` meets its contract: no step is bad if the counts agree, and if not a search tells. Assumes nothing.
+-- `sections::steps::steps_answer` meets its contract: no step is bad if the counts agree, and if not a search tells. Assumes nothing.
 use mathlib.Core.Path.{_∙_, sym}
 use borrow.Author.Needs.{needs}
 use Rattle.sections.proofs.steps.steps_answer.Statement.{statement}

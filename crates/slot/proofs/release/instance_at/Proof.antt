@@ -1,4 +1,4 @@
--- `run::release::instance_at` divides the slots since the first release by the period; there are none before it. Assumes nothing.
+-- `slot::release::instance_at` divides the slots since the first release by the period; there are none before it. Assumes nothing.
 use Prim.Native.Nat.{_-_}
 use mathlib.Core.Path.{_≡_, refl, sym}
 use native.Mathlib.Nat.{zero-div}

@@ -1,4 +1,4 @@
--- `run::release::is_released` counts from the first release, and before it nothing is released. Assumes nothing.
+-- `slot::release::is_released` counts from the first release, and before it nothing is released. Assumes nothing.
 use borrow.Author.Tests.{lt-leb, le-leb}
 use Rattle.slot.specs.Release.{releasedAt}
 use borrow.Author.Needs.{needs}

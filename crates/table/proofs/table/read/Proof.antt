@@ -1,4 +1,4 @@
--- `book::table::read` meets its contract: a refused book has a table of zeros, and the parts of another are copied over zeros.
+-- `table::table::read` meets its contract: a refused book has a table of zeros, and the parts of another are copied over zeros.
 -- Assumes nothing.
 use mathlib.Core.Path.{_≡_, _∙_, sym, ap}
 use denote.Ref.{now}

@@ -1,4 +1,4 @@
--- `book::table::table_answer` meets its contract: each code is that of what the table says, and the first refusal is the answer.
+-- `table::table::table_answer` meets its contract: each code is that of what the table says, and the first refusal is the answer.
 -- Assumes nothing.
 use Prim.Native.Nat.{ℕ, _*_, _≤_}
 use mathlib.Core.Path.{_≡_, _∙_, sym, ap}

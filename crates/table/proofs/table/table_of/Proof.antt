@@ -1,4 +1,4 @@
--- `book::table::table_of` meets its contract: each section is copied over zeros. Assumes nothing.
+-- `table::table::table_of` meets its contract: each section is copied over zeros. Assumes nothing.
 use mathlib.Core.Path.{_∙_}
 use denote.Ref.{now}
 use Rattle.trade.specs.Layout.{sections}

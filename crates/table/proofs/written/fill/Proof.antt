@@ -1,4 +1,4 @@
--- `book::written::fill` meets its contract: each part is put behind those before it. Assumes nothing.
+-- `table::written::fill` meets its contract: each part is put behind those before it. Assumes nothing.
 use Prim.Native.Nat.{ℕ, _+_, _*_}
 use mathlib.Core.Path.{_∙_, sym, ap}
 use mathlib.Core.List.{List}

@@ -1,4 +1,4 @@
--- `book::written::write_sections` meets its contract: refused, nothing is put; done, the book is. Assumes nothing.
+-- `table::written::write_sections` meets its contract: refused, nothing is put; done, the book is. Assumes nothing.
 use Prim.Native.Nat.{ℕ, _+_, _*_, _≤_}
 use mathlib.Core.Path.{_≡_, _∙_, sym, ap}
 use denote.Ref.{now}

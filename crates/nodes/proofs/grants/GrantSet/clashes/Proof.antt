@@ -1,4 +1,4 @@
--- `plans::grants::GrantSet::clashes` is the three tests of the definition. Assumes nothing.
+-- `nodes::grants::GrantSet::clashes` is the three tests of the definition. Assumes nothing.
 use Rattle.nodes.specs.Grants.{clashesWith, Holds}
 use borrow.Author.Needs.{needs}
 use Rattle.nodes.proofs.grants.GrantSet.clashes.Statement.{statement}

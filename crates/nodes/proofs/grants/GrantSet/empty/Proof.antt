@@ -1,4 +1,4 @@
--- `plans::grants::GrantSet::empty` holds no grants. Assumes nothing.
+-- `nodes::grants::GrantSet::empty` holds no grants. Assumes nothing.
 use mathlib.Core.Path.{refl}
 use Rattle.nodes.proofs.GrantsLaws.{holds-none}
 use Rattle.nodes.proofs.grants.GrantSet.empty.Statement.{statement}

@@ -1,4 +1,4 @@
--- `plans::grants::GrantSet::with` adds the nodes of the grant and the row of its sender. Assumes nothing.
+-- `nodes::grants::GrantSet::with` adds the nodes of the grant and the row of its sender. Assumes nothing.
 use native.Mathlib.Omega.{arith}
 use Rattle.nodes.specs.Grants.{oneMore}
 use Rattle.nodes.proofs.GrantsLaws.{holds-more}

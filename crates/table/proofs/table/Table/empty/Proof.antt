@@ -1,4 +1,4 @@
--- `book::table::Table::empty` meets its contract: its places are the zeros that pad an empty table. Assumes nothing.
+-- `table::table::Table::empty` meets its contract: its places are the zeros that pad an empty table. Assumes nothing.
 use mathlib.Core.Path.{refl}
 use Rattle.trade.specs.First.{sumTo}
 use Rattle.trade.specs.Bytes.{padded}

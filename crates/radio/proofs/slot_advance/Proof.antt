@@ -8,18 +8,9 @@ use Rattle.radio.proofs.Packing.{fits, packs}
 use Rattle.radio.proofs.slot_advance.Statement.{statement}
 use Rattle.radio.proofs.slot_advance.Tie as tie
 
-advance-requires : tie.Need-advance-requires
-advance-requires c κs = search needs
-
 packed-requires : tie.Need-packed-requires
 unfolding advanceBy
 packed-requires c κs = fits (c .before .before .before .before .advance .ensures .answer) (advance-number greedy releasesOf _)
-
-same-length : tie.Need-same-length
-same-length c = search needs
-
-same-length-2 : tie.Need-same-length-2
-same-length-2 c = search needs
 
 returns : tie.Need-returns
 returns c =
@@ -31,4 +22,4 @@ returns c =
 
 pub slot-advance-spec : {M : Type 1} → statement M
 slot-advance-spec =
-    tie.close (tie.spec advance-requires packed-requires same-length same-length-2 returns)
+    tie.close (tie.spec (λ c κs. search needs) packed-requires (λ c. search needs) (λ c. search needs) returns)

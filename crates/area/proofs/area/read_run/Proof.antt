@@ -24,21 +24,6 @@ abbrev μ-loop : tie.MeasureT-loop
 loop-holds : tie.Need-loop-holds Inv-loop μ-loop
 loop-holds c = (omega arith, refl, λ k h. absurd (omega arith))
 
-add-t7 : tie.Need-add-t7 Inv-loop μ-loop
-add-t7 c = search needs
-
-shared-slice-read-t9 : tie.Need-shared-slice-read-t9 Inv-loop μ-loop
-shared-slice-read-t9 c = search needs
-
-array-set-from-flows : tie.Need-array-set-from-flows Inv-loop μ-loop
-array-set-from-flows c = search needs
-
-add-i : tie.Need-add-i Inv-loop μ-loop
-add-i c = search needs
-
-loop-less : tie.Need-loop-less Inv-loop μ-loop
-loop-less c = search needs
-
 loop-again : tie.Need-loop-again Inv-loop μ-loop
 unfolding stateIn
 loop-again c =
@@ -48,9 +33,6 @@ loop-again c =
       below-more _ _ (λ k h. unstored (loop .flows) (loop .i) k _ (λ e. omega arith) ∙ loop .inv .2 k h)
           (stored (loop .flows) (loop .i) _ (omega arith)),
     )
-
-long-at-requires : tie.Need-long-at-requires Inv-loop μ-loop
-long-at-requires c κs = search needs
 
 returns : tie.Need-returns Inv-loop μ-loop
 unfolding stateIn
@@ -64,16 +46,5 @@ returns c =
 
 pub read-run-spec : {M : Type 1} → statement M
 read-run-spec =
-    tie.close
-    (tie.spec
-    Inv-loop
-    μ-loop
-    loop-holds
-    add-t7
-    shared-slice-read-t9
-    array-set-from-flows
-    add-i
-    loop-less
-    loop-again
-    long-at-requires
-    returns)
+    tie.close (tie.spec Inv-loop μ-loop loop-holds (λ c. search needs) (λ c. search needs) (λ c. search needs) (λ c. search needs)
+    (λ c. search needs) loop-again (λ c κs. search needs) returns)

@@ -24,31 +24,16 @@ Inv-loop area₀ flows i₀ area i =
 abbrev μ-loop : tie.MeasureT-loop
 μ-loop area₀ flows i₀ area i = mostFlows - i
 
-put-long-requires : tie.Need-put-long-requires Inv-loop μ-loop
-put-long-requires c κs = search needs
-
 loop-holds : tie.Need-loop-holds Inv-loop μ-loop
 loop-holds c =
     let start = c .before .before .before .before .before .before in
     let put = c .before .before .before .put-long in
     (omega arith, omega (arith, put .kept .0, start .pre), store-none slotBytes (placeOf (start .args .run .flows)) (put .last .0))
 
-array-copy-out-p : tie.Need-array-copy-out-p Inv-loop μ-loop
-array-copy-out-p c = search needs
-
-add-area : tie.Need-add-area Inv-loop μ-loop
-add-area c = search needs
-
 slice-write-area : tie.Need-slice-write-area Inv-loop μ-loop
 slice-write-area c =
     let loop = c .before .before .loop in
     omega (arith, store-length slotBytes _ _ (loop .i) (loop .area) (loop .inv .2) (omega arith))
-
-add-i : tie.Need-add-i Inv-loop μ-loop
-add-i c = search needs
-
-loop-less : tie.Need-loop-less Inv-loop μ-loop
-loop-less c = search needs
 
 loop-again : tie.Need-loop-again Inv-loop μ-loop
 unfolding placeOf
@@ -75,17 +60,5 @@ returns c =
 
 pub write-run-spec : {M : Type 1} → statement M
 write-run-spec =
-    tie.close
-    (tie.spec
-    Inv-loop
-    μ-loop
-    put-long-requires
-    loop-holds
-    array-copy-out-p
-    add-area
-    slice-write-area
-    add-i
-    loop-less
-    loop-again
-    same-length
-    returns)
+    tie.close (tie.spec Inv-loop μ-loop (λ c κs. search needs) loop-holds (λ c. search needs) (λ c. search needs) slice-write-area
+    (λ c. search needs) (λ c. search needs) loop-again same-length returns)

@@ -1,5 +1,5 @@
 -- `area::due::due_in` looks at one flow after the other. The measure is how many are left. Assumes nothing.
-use Prim.Native.Nat.{_-_, _≤_, _<_}
+use Prim.Native.Nat.{_-_, _≤_}
 use mathlib.Core.Path.{_≡_, sym, _∙_}
 use mathlib.Core.Logic.{⊎-elim}
 use native.Mathlib.Omega.{arith}
@@ -9,13 +9,6 @@ use Rattle.trade.specs.Facts.{flowIn}
 use Rattle.area.proofs.DueLaws.{Seen, seen-none, seen-stays, seen-released, seen-clear, seen-after, seen-firsts, seen-answer}
 use Rattle.area.proofs.due.due_in.Statement.{statement}
 use Rattle.area.proofs.due.due_in.Tie as tie
-use Rattle.area.proofs.due.due_in.Reads as reads
-use Rattle.area.proofs.due.due_in.Lts as lts
-use Rattle.area.proofs.due.has_stray.Reads as has-stray-reads
-use Rattle.area.proofs.refusals.answer_in_doubt.Reads as answer-in-doubt-reads
-use Rattle.area.proofs.refusals.is_bad.Reads as is-bad-reads
-use Rattle.sections.proofs.records.record_at.Reads as record-at-reads
-use Rattle.slot.proofs.release.is_released.Reads as is-released-reads
 
 abbrev Inv-loop : tie.InvT-loop
 Inv-loop flows records run slot places₀ firsts₀ doubt₀ i₀ places firsts doubt i =
@@ -24,48 +17,15 @@ Inv-loop flows records run slot places₀ firsts₀ doubt₀ i₀ places firsts 
 abbrev μ-loop : tie.MeasureT-loop
 μ-loop flows records run slot places₀ firsts₀ doubt₀ i₀ places firsts doubt i = flows - i
 
-has-stray-requires : tie.Need-has-stray-requires Inv-loop μ-loop
-has-stray-requires c κs = search needs
-
 loop-holds : tie.Need-loop-holds Inv-loop μ-loop
 loop-holds c =
     let a = c .before .before .before .before .before .args in
     (omega arith, seen-none (a .flows) (now (a .records)) (a .run) _)
 
-record-at-requires : tie.Need-record-at-requires Inv-loop μ-loop
-record-at-requires c κs = search needs
-
-cast-t16 : tie.Need-cast-t16 Inv-loop μ-loop
-cast-t16 c = search needs
-
-array-copy-out-p : tie.Need-array-copy-out-p Inv-loop μ-loop
-array-copy-out-p c = search needs
-
-mul-firsts : tie.Need-mul-firsts Inv-loop μ-loop
-mul-firsts c = search needs
-
-array-set-from-firsts : tie.Need-array-set-from-firsts Inv-loop μ-loop
-array-set-from-firsts c = search needs
-
-is-bad-requires : tie.Need-is-bad-requires Inv-loop μ-loop
-is-bad-requires c κs = search needs
-
 is-released-requires : tie.Need-is-released-requires Inv-loop μ-loop
 unfolding flowIn
 is-released-requires c κs =
     rw (c .before .before .before .record-at .ensures) (c .before .before .before .before .before .before .before .before .before .before .before .pre .1 (c .before .before .before .before .before .loop .i) (c .before .before .before .before .loop-test .taken))
-
-cast-doubt : tie.Need-cast-doubt Inv-loop μ-loop
-cast-doubt c = search needs
-
-array-set-from-places : tie.Need-array-set-from-places Inv-loop μ-loop
-array-set-from-places c = search needs
-
-add-i : tie.Need-add-i Inv-loop μ-loop
-add-i c = search needs
-
-loop-less : tie.Need-loop-less Inv-loop μ-loop
-loop-less c = search needs
 
 loop-again : tie.Need-loop-again Inv-loop μ-loop
 loop-again c =
@@ -110,23 +70,6 @@ returns c =
 
 pub due-in-spec : {M : Type 1} → statement M
 due-in-spec =
-    tie.close
-    (tie.spec
-    Inv-loop
-    μ-loop
-    has-stray-requires
-    loop-holds
-    record-at-requires
-    cast-t16
-    array-copy-out-p
-    mul-firsts
-    array-set-from-firsts
-    is-bad-requires
-    is-released-requires
-    cast-doubt
-    array-set-from-places
-    add-i
-    loop-less
-    loop-again
-    answer-in-doubt-requires
-    returns)
+    tie.close (tie.spec Inv-loop μ-loop (λ c κs. search needs) loop-holds (λ c κs. search needs) (λ c. search needs)
+    (λ c. search needs) (λ c. search needs) (λ c. search needs) (λ c κs. search needs) is-released-requires (λ c. search needs)
+    (λ c. search needs) (λ c. search needs) (λ c. search needs) loop-again answer-in-doubt-requires returns)

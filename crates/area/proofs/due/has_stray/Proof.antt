@@ -11,8 +11,6 @@ use Rattle.trade.proofs.First.{or-false}
 use Rattle.slot.specs.States.{placeOf}
 use Rattle.area.proofs.due.has_stray.Statement.{statement}
 use Rattle.area.proofs.due.has_stray.Tie as tie
-use Rattle.area.proofs.due.has_stray.Reads as reads
-use Rattle.area.proofs.due.has_stray.Lts as lts
 
 abbrev Inv-loop : tie.InvT-loop
 Inv-loop flows places stray₀ i₀ stray i = stray ≡ false → (k : ℕ) → k < i → flows ≤ k → placeOf places k ≡ 0
@@ -22,15 +20,6 @@ abbrev μ-loop : tie.MeasureT-loop
 
 loop-holds : tie.Need-loop-holds Inv-loop μ-loop
 loop-holds c = λ e k h l. absurd (omega arith)
-
-array-copy-out-p : tie.Need-array-copy-out-p Inv-loop μ-loop
-array-copy-out-p c = search needs
-
-add-i : tie.Need-add-i Inv-loop μ-loop
-add-i c = search needs
-
-loop-less : tie.Need-loop-less Inv-loop μ-loop
-loop-less c = search needs
 
 loop-again : tie.Need-loop-again Inv-loop μ-loop
 unfolding placeOf
@@ -44,5 +33,4 @@ returns c = λ e k l h. c .before .loop .inv e k (omega arith) l
 
 pub has-stray-spec : {M : Type 1} → statement M
 has-stray-spec =
-    tie.close
-    (tie.spec Inv-loop μ-loop loop-holds array-copy-out-p add-i loop-less loop-again returns)
+    tie.close (tie.spec Inv-loop μ-loop loop-holds (λ c. search needs) (λ c. search needs) (λ c. search needs) loop-again returns)

@@ -42,9 +42,6 @@ asked c =
     let a = c .before .before .before .before .before .before .before .before .before .before .args in
     c .is-bad-place .ensures ∙ place-shown (a .flows) (now (a .records)) (a .t3) (a .run) (c .before .before .before .before .loop .i)
 
-refused-requires : tie.Need-refused-requires Inv-loop μ-loop
-refused-requires c κs = search needs
-
 returns : tie.Need-returns Inv-loop μ-loop
 unfolding stateOf
 returns c =
@@ -54,21 +51,6 @@ returns c =
 loop-holds : tie.Need-loop-holds Inv-loop μ-loop
 loop-holds c = (omega arith, omega arith, λ k h. absurd (omega arith))
 
-mul-is-bad-place : tie.Need-mul-is-bad-place Inv-loop μ-loop
-mul-is-bad-place c = search needs
-
-array-copy-out-is-bad-place : tie.Need-array-copy-out-is-bad-place Inv-loop μ-loop
-array-copy-out-is-bad-place c = search needs
-
-array-copy-out-is-bad-place-2 : tie.Need-array-copy-out-is-bad-place-2 Inv-loop μ-loop
-array-copy-out-is-bad-place-2 c = search needs
-
-is-bad-place-requires : tie.Need-is-bad-place-requires Inv-loop μ-loop
-is-bad-place-requires c κs = search needs
-
-refused-requires-2 : tie.Need-refused-requires-2 Inv-loop μ-loop
-refused-requires-2 c κs = search needs
-
 returns-2 : tie.Need-returns-2 Inv-loop μ-loop
 unfolding stateOf
 returns-2 c =
@@ -77,19 +59,10 @@ returns-2 c =
     c .refused2 .ensures
     ∙ sym (code10-at (factsIn 0 (a .flows) [] (now (a .records)) []) (dueBy (factsIn 0 (a .flows) [] (now (a .records)) []) (a .t3) (a .run)) (stateOf (a .run)) (loop .i) (loop .inv .1) (omega arith) (loop .inv .2) (sym (asked (c .before .before)) ∙ c .before .if2 .taken))
 
-add-i : tie.Need-add-i Inv-loop μ-loop
-add-i c = search needs
-
-loop-less : tie.Need-loop-less Inv-loop μ-loop
-loop-less c = search needs
-
 loop-again : tie.Need-loop-again Inv-loop μ-loop
 loop-again c =
     let loop = c .before .before .before .before .before .loop in
     (omega arith, loop .inv .1, below-more _ _ (loop .inv .2) (sym (asked (c .before)) ∙ c .if2 .left))
-
-done-requires : tie.Need-done-requires Inv-loop μ-loop
-done-requires c κs = search needs
 
 returns-3 : tie.Need-returns-3 Inv-loop μ-loop
 unfolding stateOf
@@ -100,21 +73,6 @@ returns-3 c =
 
 pub area-answer-spec : {M : Type 1} → statement M
 area-answer-spec =
-    tie.close
-    (tie.spec
-    Inv-loop
-    μ-loop
-    refused-requires
-    returns
-    loop-holds
-    mul-is-bad-place
-    array-copy-out-is-bad-place
-    array-copy-out-is-bad-place-2
-    is-bad-place-requires
-    refused-requires-2
-    returns-2
-    add-i
-    loop-less
-    loop-again
-    done-requires
-    returns-3)
+    tie.close (tie.spec Inv-loop μ-loop (λ c κs. search needs) returns loop-holds (λ c. search needs) (λ c. search needs)
+    (λ c. search needs) (λ c κs. search needs) (λ c κs. search needs) returns-2 (λ c. search needs) (λ c. search needs) loop-again
+    (λ c κs. search needs) returns-3)

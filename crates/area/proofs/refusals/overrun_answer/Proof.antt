@@ -49,24 +49,9 @@ asked c =
 loop-holds : tie.Need-loop-holds Inv-loop μ-loop
 loop-holds c = (omega arith, λ k h. absurd (omega arith))
 
-record-at-requires : tie.Need-record-at-requires Inv-loop μ-loop
-record-at-requires c κs = search needs
-
-mul-is-overrun : tie.Need-mul-is-overrun Inv-loop μ-loop
-mul-is-overrun c = search needs
-
-array-copy-out-is-overrun : tie.Need-array-copy-out-is-overrun Inv-loop μ-loop
-array-copy-out-is-overrun c = search needs
-
-array-copy-out-is-overrun-2 : tie.Need-array-copy-out-is-overrun-2 Inv-loop μ-loop
-array-copy-out-is-overrun-2 c = search needs
-
 is-overrun-requires : tie.Need-is-overrun-requires Inv-loop μ-loop
 unfolding flowIn
 is-overrun-requires c κs = rw (c .before .before .record-at .ensures) (c .before .before .before .before .before .before .before .before .pre .1 (c .before .before .before .before .loop .i) (c .before .before .before .loop-test .taken))
-
-refused-requires : tie.Need-refused-requires Inv-loop μ-loop
-refused-requires c κs = search needs
 
 returns : tie.Need-returns Inv-loop μ-loop
 unfolding factsOf
@@ -76,19 +61,10 @@ returns c =
     c .refused .ensures
     ∙ sym (code11-at (factsIn 0 (a .flows) [] (now (a .records)) []) (dueBy (factsIn 0 (a .flows) [] (now (a .records)) []) (a .t3) (a .run)) (stateOf (a .run)) (loop .i) (omega arith) (loop .inv .1) (sym (asked (c .before .before)) ∙ c .before .if1 .taken))
 
-add-i : tie.Need-add-i Inv-loop μ-loop
-add-i c = search needs
-
-loop-less : tie.Need-loop-less Inv-loop μ-loop
-loop-less c = search needs
-
 loop-again : tie.Need-loop-again Inv-loop μ-loop
 loop-again c =
     let loop = c .before .before .before .before .before .before .loop in
     (omega arith, below-more _ _ (loop .inv .1) (sym (asked (c .before)) ∙ c .if1 .left))
-
-done-requires : tie.Need-done-requires Inv-loop μ-loop
-done-requires c κs = search needs
 
 returns-2 : tie.Need-returns-2 Inv-loop μ-loop
 unfolding factsOf
@@ -99,20 +75,6 @@ returns-2 c =
 
 pub overrun-answer-spec : {M : Type 1} → statement M
 overrun-answer-spec =
-    tie.close
-    (tie.spec
-    Inv-loop
-    μ-loop
-    loop-holds
-    record-at-requires
-    mul-is-overrun
-    array-copy-out-is-overrun
-    array-copy-out-is-overrun-2
-    is-overrun-requires
-    refused-requires
-    returns
-    add-i
-    loop-less
-    loop-again
-    done-requires
-    returns-2)
+    tie.close (tie.spec Inv-loop μ-loop loop-holds (λ c κs. search needs) (λ c. search needs) (λ c. search needs)
+    (λ c. search needs) is-overrun-requires (λ c κs. search needs) returns (λ c. search needs) (λ c. search needs) loop-again
+    (λ c κs. search needs) returns-2)

@@ -11,26 +11,17 @@ use borrow.Author.Needs.{needs}
 use Rattle.area.proofs.refusals.run_answer.Statement.{statement}
 use Rattle.area.proofs.refusals.run_answer.Tie as tie
 
-area-answer-requires : tie.Need-area-answer-requires
-area-answer-requires c κs = search needs
-
 returns : tie.Need-returns
 returns c =
     let a = c .before .before .before .before .args in
     let malformed = c .before .before .area-answer .ensures in
     malformed ∙ sym (run-malformed (factsIn 0 (a .flows) [] (now (a .records)) []) (dueBy (factsIn 0 (a .flows) [] (now (a .records)) []) (a .firsts) (a .run)) (stateOf (a .run)) (λ z. c .if1 .taken (ap (λ (r : Answer). r .code) malformed ∙ z)))
 
-refused-requires : tie.Need-refused-requires
-refused-requires c κs = search needs
-
 returns-2 : tie.Need-returns-2
 unfolding stateOf
 returns-2 c =
     let a = c .before .before .before .before .before .before .before .args in
     c .refused .ensures ∙ sym (run-ended (factsIn 0 (a .flows) [] (now (a .records)) []) (dueBy (factsIn 0 (a .flows) [] (now (a .records)) []) (a .firsts) (a .run)) (stateOf (a .run)) (sym (ap (λ (r : Answer). r .code) (c .before .before .before .before .before .area-answer .ensures)) ∙ c .before .before .before .if1 .left) (c .before .if2 .taken))
-
-overrun-answer-requires : tie.Need-overrun-answer-requires
-overrun-answer-requires c κs = search needs
 
 returns-3 : tie.Need-returns-3
 unfolding stateOf
@@ -41,11 +32,4 @@ returns-3 c =
 
 pub run-answer-spec : {M : Type 1} → statement M
 run-answer-spec =
-    tie.close
-    (tie.spec
-    area-answer-requires
-    returns
-    refused-requires
-    returns-2
-    overrun-answer-requires
-    returns-3)
+    tie.close (tie.spec (λ c κs. search needs) returns (λ c κs. search needs) returns-2 (λ c κs. search needs) returns-3)

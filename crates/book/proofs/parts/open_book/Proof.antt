@@ -42,39 +42,12 @@ framed c =
     rw (c .frame-by .ensures, read (c .before .before .before .before))
     (laid (c .before))
 
-refused-requires : tie.Need-refused-requires
-refused-requires c κs = search needs
-
-shut-requires : tie.Need-shut-requires
-shut-requires c κs = search needs
-
 returns : tie.Need-returns
 returns c =
     let slice = now (c .before .before .before .before .args .slice) in
     c .shut .ensures
     ∙ ap (λ (a : Answer). record { answer = a; frame = noFrame }) (c .before .refused .ensures)
     ∙ sym (opened-refused slice (refused 1 0) (too-short slice (c .before .before .if1 .taken)) (λ (z : _≡_ {A = ℕ} 1 0). omega arith))
-
-sub-end : tie.Need-sub-end
-sub-end c = search needs
-
-sub-trailer-of : tie.Need-sub-trailer-of
-sub-trailer-of c = search needs
-
-part-trailer-of-start : tie.Need-part-trailer-of-start
-part-trailer-of-start c = search needs
-
-part-trailer-of-end : tie.Need-part-trailer-of-end
-part-trailer-of-end c = search needs
-
-trailer-of-requires : tie.Need-trailer-of-requires
-trailer-of-requires c κs = search needs
-
-trailer-answer-requires : tie.Need-trailer-answer-requires
-trailer-answer-requires c κs = search needs
-
-shut-requires-2 : tie.Need-shut-requires-2
-shut-requires-2 c κs = search needs
 
 returns-2 : tie.Need-returns-2
 returns-2 c =
@@ -93,9 +66,6 @@ frame-by-requires c κs =
 
 sections-answer-requires : tie.Need-sections-answer-requires
 sections-answer-requires c κs = framed c
-
-shut-requires-3 : tie.Need-shut-requires-3
-shut-requires-3 c κs = search needs
 
 returns-3 : tie.Need-returns-3
 returns-3 c =
@@ -119,21 +89,6 @@ returns-4 c =
 
 pub open-book-spec : {M : Type 1} → statement M
 open-book-spec =
-    tie.close
-    (tie.spec
-    refused-requires
-    shut-requires
-    returns
-    sub-end
-    sub-trailer-of
-    part-trailer-of-start
-    part-trailer-of-end
-    trailer-of-requires
-    trailer-answer-requires
-    shut-requires-2
-    returns-2
-    frame-by-requires
-    sections-answer-requires
-    shut-requires-3
-    returns-3
-    returns-4)
+    tie.close (tie.spec (λ c κs. search needs) (λ c κs. search needs) returns (λ c. search needs) (λ c. search needs)
+    (λ c. search needs) (λ c. search needs) (λ c κs. search needs) (λ c κs. search needs) (λ c κs. search needs) returns-2
+    frame-by-requires sections-answer-requires (λ c κs. search needs) returns-3 returns-4)

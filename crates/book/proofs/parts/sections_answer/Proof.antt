@@ -60,15 +60,6 @@ sums c =
     let a = c .before .before .before .before .before .before .before .before .before .before .before .args in
     rw (c .steps-before .ensures .0, c .before .before .before .before .before .before .before .before .before .records-of .ensures)
 
-records-of-requires : tie.Need-records-of-requires
-records-of-requires c κs = search needs
-
-steps-of-requires : tie.Need-steps-of-requires
-steps-of-requires c κs = search needs
-
-rows-of-requires : tie.Need-rows-of-requires
-rows-of-requires c κs = search needs
-
 rows-answer-requires : tie.Need-rows-answer-requires
 rows-answer-requires c κs =
     let a = c .before .before .before .before .args in
@@ -103,9 +94,6 @@ steps-before-requires c κs =
 
 mul-if3 : tie.Need-mul-if3
 mul-if3 c = omega (arith, c .steps-before .ensures .1, c .before .before .before .before .before .before .before .before .before .before .before .pre .flows)
-
-refused-requires : tie.Need-refused-requires
-refused-requires c κs = search needs
 
 returns-3 : tie.Need-returns-3
 returns-3 c =
@@ -144,18 +132,6 @@ returns-4 c =
 
 pub sections-answer-spec : {M : Type 1} → statement M
 sections-answer-spec =
-    tie.close
-    (tie.spec
-    records-of-requires
-    steps-of-requires
-    rows-of-requires
-    rows-answer-requires
-    returns
-    records-answer-requires
-    returns-2
-    steps-before-requires
-    mul-if3
-    refused-requires
-    returns-3
-    steps-answer-requires
+    tie.close (tie.spec (λ c κs. search needs) (λ c κs. search needs) (λ c κs. search needs) rows-answer-requires returns
+    records-answer-requires returns-2 steps-before-requires mul-if3 (λ c κs. search needs) returns-3 steps-answer-requires
     returns-4)

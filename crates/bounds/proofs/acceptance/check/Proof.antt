@@ -14,12 +14,6 @@ use Rattle.bounds.proofs.CheckLaws.{checks-refused, checks-bounded, sai
 use Rattle.bounds.proofs.acceptance.check.Statement.{statement}
 use Rattle.bounds.proofs.acceptance.check.Tie as tie
 
-open-book-requires : tie.Need-open-book-requires
-open-book-requires c κs = search needs
-
-refused-requires : tie.Need-refused-requires
-refused-requires c κs = search needs
-
 returns : tie.Need-returns
 unfolding openedOf
 returns c =
@@ -69,13 +63,5 @@ returns-2 c =
 
 pub check-spec : {M : Type 1} → statement M
 check-spec =
-    tie.close
-    (tie.spec
-    open-book-requires
-    refused-requires
-    returns
-    rows-of-requires
-    records-of-requires
-    steps-of-requires
-    bounds-of-requires
-    returns-2)
+    tie.close (tie.spec (λ c κs. search needs) (λ c κs. search needs) returns rows-of-requires records-of-requires
+    steps-of-requires bounds-of-requires returns-2)

@@ -18,18 +18,6 @@ use Rattle.figures.proofs.Padded.{filled-at}
 use Rattle.bounds.proofs.bounds.bound_at.Statement.{statement}
 use Rattle.bounds.proofs.bounds.bound_at.Tie as tie
 
-record-at-requires : tie.Need-record-at-requires
-record-at-requires c κs = search needs
-
-figures-at-requires : tie.Need-figures-at-requires
-figures-at-requires c κs = search needs
-
-cast-smallest : tie.Need-cast-smallest
-cast-smallest c = search needs
-
-cast-smallest-2 : tie.Need-cast-smallest-2
-cast-smallest-2 c = search needs
-
 -- the figures of the flows above
 figure :
     (c : tie.After-figures-at)
@@ -87,11 +75,5 @@ returns c =
 
 pub bound-at-spec : {M : Type 1} → statement M
 bound-at-spec =
-    tie.close
-    (tie.spec
-    record-at-requires
-    figures-at-requires
-    cast-smallest
-    cast-smallest-2
-    smallest-requires
+    tie.close (tie.spec (λ c κs. search needs) (λ c κs. search needs) (λ c. search needs) (λ c. search needs) smallest-requires
     returns)

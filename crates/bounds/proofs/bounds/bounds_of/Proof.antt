@@ -4,18 +4,6 @@ use native.Mathlib.Omega.{arith}
 use Rattle.bounds.proofs.bounds.bounds_of.Statement.{statement}
 use Rattle.bounds.proofs.bounds.bounds_of.Tie as tie
 
-array-share-prefix-unknown : tie.Need-array-share-prefix-unknown
-array-share-prefix-unknown c = omega arith
-
-slice-aggregate-bounds-with : tie.Need-slice-aggregate-bounds-with
-slice-aggregate-bounds-with c = refl
-
-array-borrow-prefix-none : tie.Need-array-borrow-prefix-none
-array-borrow-prefix-none c = omega arith
-
-slice-aggregate-bounds-with-2 : tie.Need-slice-aggregate-bounds-with-2
-slice-aggregate-bounds-with-2 c = refl
-
 bounds-with-requires : tie.Need-bounds-with-requires
 bounds-with-requires c κs = (c .before .before .before .before .before .before .pre, λ some. absurd (omega arith))
 
@@ -28,9 +16,6 @@ disturbers-requires c κs = tt
 slice-aggregate-bounds-with-3 : tie.Need-slice-aggregate-bounds-with-3
 slice-aggregate-bounds-with-3 c = sym (c .before .disturbers .ensures .size)
 
-slice-aggregate-bounds-with-4 : tie.Need-slice-aggregate-bounds-with-4
-slice-aggregate-bounds-with-4 c = refl
-
 bounds-with-requires-2 : tie.Need-bounds-with-requires-2
 bounds-with-requires-2 c κs = (c .before .before .before .before .before .before .before .pre, λ some. (c .before .before .disturbers .ensures, omega (arith, c .before .before .before .before .before .before .before .pre .most)))
 
@@ -39,16 +24,5 @@ returns-2 c = c .before .bounds-with2 .ensures
 
 pub bounds-of-spec : {M : Type 1} → statement M
 bounds-of-spec =
-    tie.close
-    (tie.spec
-    array-share-prefix-unknown
-    slice-aggregate-bounds-with
-    array-borrow-prefix-none
-    slice-aggregate-bounds-with-2
-    bounds-with-requires
-    returns
-    disturbers-requires
-    slice-aggregate-bounds-with-3
-    slice-aggregate-bounds-with-4
-    bounds-with-requires-2
-    returns-2)
+    tie.close (tie.spec (λ c. omega arith) (λ c. refl) (λ c. omega arith) (λ c. refl) bounds-with-requires returns
+    disturbers-requires slice-aggregate-bounds-with-3 (λ c. refl) bounds-with-requires-2 returns-2)

@@ -175,9 +175,6 @@ keep-requires c κs =
 add-l : tie.Need-add-l Inv-loop μ-loop
 add-l c = omega (arith, c .before .before .before .before .before .before .before .before .before .before .before .before .before .before .before .before .before .before .before .before .pre .0 .most)
 
-loop-less : tie.Need-loop-less Inv-loop μ-loop
-loop-less c = omega arith
-
 loop-again : tie.Need-loop-again Inv-loop μ-loop
 unfolding factsOf
 loop-again c =
@@ -218,31 +215,7 @@ returns-2 c =
 
 pub bounds-with-spec : {M : Type 1} → statement M
 bounds-with-spec =
-    tie.close
-    (tie.spec
-    Inv-loop
-    μ-loop
-    loop-holds
-    record-at-requires
-    bound-at-requires
-    cast-if1
-    refused-requires
-    refused-requires-2
-    same-length
-    returns
-    cast-bounds
-    mul-bounds
-    array-write-bounds
-    cast-periods
-    mul-periods
-    array-write-periods
-    cast-carries
-    mul-carries
-    array-write-carries
-    keep-requires
-    add-l
-    loop-less
-    loop-again
-    done-requires
-    same-length-2
+    tie.close (tie.spec Inv-loop μ-loop loop-holds record-at-requires bound-at-requires cast-if1 refused-requires
+    refused-requires-2 same-length returns cast-bounds mul-bounds array-write-bounds cast-periods mul-periods array-write-periods
+    cast-carries mul-carries array-write-carries keep-requires add-l (λ c. omega arith) loop-again done-requires same-length-2
     returns-2)

@@ -31,18 +31,6 @@ loop-holds : tie.Need-loop-holds Inv-loop μ-loop
 unfolding neededIn sumTo
 loop-holds c = (omega arith, omega arith, omega arith)
 
-mul-instances : tie.Need-mul-instances Inv-loop μ-loop
-mul-instances c = omega arith
-
-element-copy-out-instances : tie.Need-element-copy-out-instances Inv-loop μ-loop
-element-copy-out-instances c = omega arith
-
-mul-instances-2 : tie.Need-mul-instances-2 Inv-loop μ-loop
-mul-instances-2 c = omega arith
-
-element-copy-out-instances-2 : tie.Need-element-copy-out-instances-2 Inv-loop μ-loop
-element-copy-out-instances-2 c = omega arith
-
 instances-requires : tie.Need-instances-requires Inv-loop μ-loop
 instances-requires c κs =
     let s = c .before .before .before .before in
@@ -54,12 +42,6 @@ instances-requires c κs =
       t .period h (omega arith) .0,
       t .period h (omega arith) .1,
     )
-
-mul-sum : tie.Need-mul-sum Inv-loop μ-loop
-mul-sum c = omega arith
-
-element-copy-out-sum : tie.Need-element-copy-out-sum Inv-loop μ-loop
-element-copy-out-sum c = omega arith
 
 -- what a flow above adds is at most that
 adds :
@@ -76,12 +58,6 @@ mul-sum-2 c = omega (arith, adds c)
 
 add-sum : tie.Need-add-sum Inv-loop μ-loop
 add-sum c = omega (arith, adds c)
-
-add-h : tie.Need-add-h Inv-loop μ-loop
-add-h c = omega arith
-
-loop-less : tie.Need-loop-less Inv-loop μ-loop
-loop-less c = omega arith
 
 loop-again : tie.Need-loop-again Inv-loop μ-loop
 unfolding neededIn
@@ -103,21 +79,6 @@ returns c =
 
 pub slots-needed-spec : {M : Type 1} → statement M
 slots-needed-spec =
-    tie.close
-    (tie.spec
-    Inv-loop
-    μ-loop
-    loop-holds
-    mul-instances
-    element-copy-out-instances
-    mul-instances-2
-    element-copy-out-instances-2
-    instances-requires
-    mul-sum
-    element-copy-out-sum
-    mul-sum-2
-    add-sum
-    add-h
-    loop-less
-    loop-again
+    tie.close (tie.spec Inv-loop μ-loop loop-holds (λ c. omega arith) (λ c. omega arith) (λ c. omega arith) (λ c. omega arith)
+    instances-requires (λ c. omega arith) (λ c. omega arith) mul-sum-2 add-sum (λ c. omega arith) (λ c. omega arith) loop-again
     returns)

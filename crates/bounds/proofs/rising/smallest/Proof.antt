@@ -34,9 +34,6 @@ returns c =
     (rw (← c .before .slots-needed .ensures) (c .if1 .taken))
     (loop .inv .1))
 
-loop-less : tie.Need-loop-less Inv-loop μ-loop
-loop-less c = omega arith
-
 loop-again : tie.Need-loop-again Inv-loop μ-loop
 loop-again c =
     let a = c .before .before .before .before .args in
@@ -58,14 +55,5 @@ returns-2 c =
 
 pub smallest-spec : {M : Type 1} → statement M
 smallest-spec =
-    tie.close
-    (tie.spec
-    Inv-loop
-    μ-loop
-    loop-holds
-    slots-needed-requires
-    returns
-    loop-less
-    loop-again
-    add-result
+    tie.close (tie.spec Inv-loop μ-loop loop-holds slots-needed-requires returns (λ c. omega arith) loop-again add-result
     returns-2)

@@ -32,15 +32,6 @@ places s = search needs
 two : (s : tie.Start) → asked s .flow .len < 65536
 two s = search needs
 
-cast-table-answer : tie.Need-cast-table-answer
-cast-table-answer c = search needs
-
-cast-table-answer-2 : tie.Need-cast-table-answer-2
-cast-table-answer-2 c = search needs
-
-table-answer-requires : tie.Need-table-answer-requires
-table-answer-requires c κs = search needs
-
 -- the old table has been tested
 abbrev by-old : tie.After-table-answer → Adding
 by-old c = asked (c .before .before .before .before .before .before .before .before)
@@ -62,12 +53,6 @@ passed c = sym (ap (λ (r : Answer). r .code) (c .before .before .before .table-
 
 enter : (c : tie.After-enter-answer) → c .enter-answer .result ≡ firstOf enterRules noNumber (by-place c)
 enter c = c .enter-answer .ensures ∙ sym (enter-count (by-place c))
-
-cast-enter-answer : tie.Need-cast-enter-answer
-cast-enter-answer c = search needs
-
-enter-answer-requires : tie.Need-enter-answer-requires
-enter-answer-requires c κs = search needs
 
 returns-2 : tie.Need-returns-2
 unfolding addOf
@@ -110,17 +95,8 @@ answers :
     (c : tie.After-recut) {r : Answer} → r ≡ firstOf newRules noNumber (sectionsIn (c .recut .result)) → r ≡ addAnswer (by-both (entered c))
 answers c e = e ∙ ap (firstOf newRules noNumber) (is-new c) ∙ enter-answers (by-both (entered c)) (enters (entered c))
 
-entering-requires : tie.Need-entering-requires
-entering-requires c κs = search needs
-
 recut-requires : tie.Need-recut-requires
 recut-requires c κs = recuts (c .before .before .before .before .before .before .before)
-
-cast-new-answer : tie.Need-cast-new-answer
-cast-new-answer c = search needs
-
-cast-new-answer-2 : tie.Need-cast-new-answer-2
-cast-new-answer-2 c = search needs
 
 new-answer-requires : tie.Need-new-answer-requires
 unfolding tableOf recut used
@@ -146,19 +122,6 @@ returns-4 c =
 
 pub add-spec : {M : Type 1} → statement M
 add-spec =
-    tie.close
-    (tie.spec
-    cast-table-answer
-    cast-table-answer-2
-    table-answer-requires
-    returns
-    cast-enter-answer
-    enter-answer-requires
-    returns-2
-    entering-requires
-    recut-requires
-    cast-new-answer
-    cast-new-answer-2
-    new-answer-requires
-    returns-3
-    returns-4)
+    tie.close (tie.spec (λ c. search needs) (λ c. search needs) (λ c κs. search needs) returns (λ c. search needs)
+    (λ c κs. search needs) returns-2 (λ c κs. search needs) recut-requires (λ c. search needs) (λ c. search needs)
+    new-answer-requires returns-3 returns-4)

@@ -22,15 +22,6 @@ asked s = record { table = sectionsIn (s .args .t1); place = s .args .place }
 memory : (s : tie.Start) → InMemory (asked s .table)
 memory s = record { rows = search needs; records = search needs; steps = search needs }
 
-cast-table-answer : tie.Need-cast-table-answer
-cast-table-answer c = search needs
-
-cast-table-answer-2 : tie.Need-cast-table-answer-2
-cast-table-answer-2 c = search needs
-
-table-answer-requires : tie.Need-table-answer-requires
-table-answer-requires c κs = search needs
-
 -- the old table has been tested
 abbrev by-old : tie.After-table-answer → Removing
 by-old c = asked (c .before .before .before .before .before .before .before .before)
@@ -42,12 +33,6 @@ returns c =
     let old = tested .table-answer .ensures in
     let e = old ∙ sym (remove-old (by-old tested) (λ z. c .if1 .taken (ap (λ (r : Answer). r .code) old ∙ z))) in
     record { answer = e; table = leaves _ _ _ _ e (c .if1 .taken) }
-
-cast-leave-answer : tie.Need-cast-leave-answer
-cast-leave-answer c = search needs
-
-leave-answer-requires : tie.Need-leave-answer-requires
-leave-answer-requires c κs = search needs
 
 -- and then the place, which gives the answer
 abbrev by-place : tie.After-leave-answer → Removing
@@ -108,15 +93,5 @@ returns-3 c =
 
 pub remove-spec : {M : Type 1} → statement M
 remove-spec =
-    tie.close
-    (tie.spec
-    cast-table-answer
-    cast-table-answer-2
-    table-answer-requires
-    returns
-    cast-leave-answer
-    leave-answer-requires
-    returns-2
-    leaving-requires
-    recut-requires
-    returns-3)
+    tie.close (tie.spec (λ c. search needs) (λ c. search needs) (λ c κs. search needs) returns (λ c. search needs)
+    (λ c κs. search needs) returns-2 leaving-requires recut-requires returns-3)

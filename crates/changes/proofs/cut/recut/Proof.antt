@@ -18,12 +18,6 @@ use borrow.Author.Needs.{needs}
 use Rattle.changes.proofs.cut.recut.Statement.{statement}
 use Rattle.changes.proofs.cut.recut.Tie as tie
 
-mul-size : tie.Need-mul-size
-mul-size c = search needs
-
-slice-aggregate-put-at : tie.Need-slice-aggregate-put-at
-slice-aggregate-put-at c = search needs
-
 -- the rows of so many nodes
 kept : (s : tie.Start) → length (take (rowBytes * s .args .nodes) (now (s .args .rows))) ≡ rowBytes * s .args .nodes
 kept s = length-take-le _ _ (omega (arith, s .pre .memory .rows, s .pre .nodes))
@@ -36,31 +30,10 @@ put-at-requires c κs =
     let s = c .before .before .before .before .before in
     omega (arith, kept s, s .pre .nodes)
 
-slice-aggregate-recut-records : tie.Need-slice-aggregate-recut-records
-slice-aggregate-recut-records c = search needs
-
-recut-records-requires : tie.Need-recut-records-requires
-recut-records-requires c κs = search needs
-
-slice-aggregate-recut-steps : tie.Need-slice-aggregate-recut-steps
-slice-aggregate-recut-steps c = search needs
-
 recut-steps-requires : tie.Need-recut-steps-requires
 recut-steps-requires c κs =
     let p = c .before .before .before .before .before .before .before .before .before .before .before .pre in
     (p .flows, ((omega (arith, p .memory .records, p .flows .few), omega (arith, p .memory .steps), omega arith), p .lens))
-
-sub-t21 : tie.Need-sub-t21
-sub-t21 c = search needs
-
-sub-t22 : tie.Need-sub-t22
-sub-t22 c = search needs
-
-add-t23 : tie.Need-add-t23
-add-t23 c = search needs
-
-cast-t24 : tie.Need-cast-t24
-cast-t24 c = search needs
 
 ten : (s : tie.Start) → length (s .args .x .records) ≡ recordBytes
 ten s = search needs
@@ -83,18 +56,6 @@ returns c =
 
 pub recut-spec : {M : Type 1} → statement M
 recut-spec =
-    tie.close
-    (tie.spec
-    mul-size
-    slice-aggregate-put-at
-    slice-aggregate-put-at-2
-    put-at-requires
-    slice-aggregate-recut-records
-    recut-records-requires
-    slice-aggregate-recut-steps
-    recut-steps-requires
-    sub-t21
-    sub-t22
-    add-t23
-    cast-t24
-    returns)
+    tie.close (tie.spec (λ c. search needs) (λ c. search needs) slice-aggregate-put-at-2 put-at-requires (λ c. search needs)
+    (λ c κs. search needs) (λ c. search needs) recut-steps-requires (λ c. search needs) (λ c. search needs) (λ c. search needs)
+    (λ c. search needs) returns)

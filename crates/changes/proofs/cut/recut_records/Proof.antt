@@ -12,18 +12,6 @@ use borrow.Author.Needs.{needs}
 use Rattle.changes.proofs.cut.recut_records.Statement.{statement}
 use Rattle.changes.proofs.cut.recut_records.Tie as tie
 
-mul-end : tie.Need-mul-end
-mul-end c = search needs
-
-mul-from : tie.Need-mul-from
-mul-from c = search needs
-
-mul-to : tie.Need-mul-to
-mul-to c = search needs
-
-mul-size : tie.Need-mul-size
-mul-size c = search needs
-
 -- the record has its ten bytes, and so many of them, and of the old records, are read
 ten : (s : tie.Start) → length (s .args .x .records) ≡ recordBytes
 ten s = search needs
@@ -49,24 +37,11 @@ splice-requires c κs =
     let p = s .pre .0 in
     ((omega (arith, p .order), omega (arith, kept s, p .within)), omega (arith, kept s, fresh s, p .order, p .within, p .room))
 
-same-length : tie.Need-same-length
-same-length c = search needs
-
 returns : tie.Need-returns
 unfolding recut used
 returns c = c .before .before .splice .ensures
 
 pub recut-records-spec : {M : Type 1} → statement M
 recut-records-spec =
-    tie.close
-    (tie.spec
-    mul-end
-    mul-from
-    mul-to
-    mul-size
-    slice-aggregate-splice
-    array-share-prefix-new
-    slice-aggregate-splice-2
-    splice-requires
-    same-length
-    returns)
+    tie.close (tie.spec (λ c. search needs) (λ c. search needs) (λ c. search needs) (λ c. search needs) slice-aggregate-splice
+    array-share-prefix-new slice-aggregate-splice-2 splice-requires (λ c. search needs) returns)

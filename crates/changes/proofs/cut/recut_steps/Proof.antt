@@ -16,27 +16,6 @@ use borrow.Author.Needs.{needs}
 use Rattle.changes.proofs.cut.recut_steps.Statement.{statement}
 use Rattle.changes.proofs.cut.recut_steps.Tie as tie
 
-steps-before-requires : tie.Need-steps-before-requires
-steps-before-requires c κs = search needs
-
-mul-end : tie.Need-mul-end
-mul-end c = search needs
-
-steps-before-requires-2 : tie.Need-steps-before-requires-2
-steps-before-requires-2 c κs = search needs
-
-mul-from : tie.Need-mul-from
-mul-from c = search needs
-
-steps-before-requires-3 : tie.Need-steps-before-requires-3
-steps-before-requires-3 c κs = search needs
-
-mul-to : tie.Need-mul-to
-mul-to c = search needs
-
-mul-size : tie.Need-mul-size
-mul-size c = search needs
-
 -- so many steps of the plan come
 places : (s : tie.Start) → length (s .args .x .steps) ≡ stepBytes * mostSteps
 places s = search needs
@@ -88,9 +67,6 @@ splice-requires c κs =
       omega (arith, kept b, fresh s, gone, last, room, p .short, p .room, s .pre .1 .0),
     )
 
-same-length : tie.Need-same-length
-same-length c = search needs
-
 returns : tie.Need-returns
 returns c =
     let b = c .before .before .before .before .before .before .before .before in
@@ -103,18 +79,6 @@ returns c =
 
 pub recut-steps-spec : {M : Type 1} → statement M
 recut-steps-spec =
-    tie.close
-    (tie.spec
-    steps-before-requires
-    mul-end
-    steps-before-requires-2
-    mul-from
-    steps-before-requires-3
-    mul-to
-    mul-size
-    slice-aggregate-splice
-    array-share-prefix-new
-    slice-aggregate-splice-2
-    splice-requires
-    same-length
-    returns)
+    tie.close (tie.spec (λ c κs. search needs) (λ c. search needs) (λ c κs. search needs) (λ c. search needs)
+    (λ c κs. search needs) (λ c. search needs) (λ c. search needs) slice-aggregate-splice array-share-prefix-new
+    slice-aggregate-splice-2 splice-requires (λ c. search needs) returns)

@@ -18,27 +18,6 @@ slice-aggregate-put-at c = sym (front (c .before .before .before .before .before
 put-at-requires : tie.Need-put-at-requires
 put-at-requires c κs = omega (arith, front (c .before .before .before .before .before))
 
-put-at-requires-2 : tie.Need-put-at-requires-2
-put-at-requires-2 c κs = search needs
-
-add-put-at : tie.Need-add-put-at
-add-put-at c = search needs
-
-sub-put-at : tie.Need-sub-put-at
-sub-put-at c = search needs
-
-part-put-at-start : tie.Need-part-put-at-start
-part-put-at-start c = search needs
-
-part-put-at-end : tie.Need-part-put-at-end
-part-put-at-end c = search needs
-
-put-at-requires-3 : tie.Need-put-at-requires-3
-put-at-requires-3 c κs = search needs
-
-same-length : tie.Need-same-length
-same-length c = search needs
-
 returns : tie.Need-returns
 returns c =
     let third = c .before .before in
@@ -50,15 +29,5 @@ returns c =
 
 pub splice-spec : {M : Type 1} → statement M
 splice-spec =
-    tie.close
-    (tie.spec
-    slice-aggregate-put-at
-    put-at-requires
-    put-at-requires-2
-    add-put-at
-    sub-put-at
-    part-put-at-start
-    part-put-at-end
-    put-at-requires-3
-    same-length
-    returns)
+    tie.close (tie.spec slice-aggregate-put-at put-at-requires (λ c κs. search needs) (λ c. search needs) (λ c. search needs)
+    (λ c. search needs) (λ c. search needs) (λ c κs. search needs) (λ c. search needs) returns)

@@ -9,15 +9,9 @@ use Rattle.trade.proofs.Answers.{firstOf-rule, passed-none, passed-more, passed
 use Rattle.changes.proofs.rules.enter_answer.Statement.{statement}
 use Rattle.changes.proofs.rules.enter_answer.Tie as tie
 
-refused-requires : tie.Need-refused-requires
-refused-requires c κs = search needs
-
 returns : tie.Need-returns
 unfolding isDone code14 given factsOf
 returns c = c .refused .ensures ∙ sym (firstOf-rule code14 _ noNumber _ ∙ rw (eq-eqb _ _ (c .before .if1 .taken)))
-
-refused-requires-2 : tie.Need-refused-requires-2
-refused-requires-2 c κs = search needs
 
 returns-2 : tie.Need-returns-2
 unfolding isDone code14 code15Adding given factsOf
@@ -27,9 +21,6 @@ returns-2 c =
     (firstOf-rule code14 _ noNumber _
     ∙ rw (ne-eqb _ _ (c .before .before .if1 .left))
     (firstOf-rule _ _ noNumber _ ∙ rw (lt-ltb _ _ (c .before .if2 .taken))))
-
-done-requires : tie.Need-done-requires
-done-requires c κs = search needs
 
 returns-3 : tie.Need-returns-3
 unfolding code14 code15Adding given factsOf
@@ -41,5 +32,4 @@ returns-3 c =
 
 pub enter-answer-spec : {M : Type 1} → statement M
 enter-answer-spec =
-    tie.close
-    (tie.spec refused-requires returns refused-requires-2 returns-2 done-requires returns-3)
+    tie.close (tie.spec (λ c κs. search needs) returns (λ c κs. search needs) returns-2 (λ c κs. search needs) returns-3)

@@ -63,9 +63,6 @@ eight c = c .steps-answer .ensures ∙ code8-steps (second c)
 eight-passes : (c : tie.Else2) → code8 (factsOf (second (c .before .before))) .code ≡ 0
 eight-passes c = sym (ap (λ (r : Answer). r .code) (eight (c .before .before))) ∙ c .if2 .left
 
-records-answer-requires : tie.Need-records-answer-requires
-records-answer-requires c κs = search needs
-
 returns : tie.Need-returns
 unfolding newRules
 returns c =
@@ -108,11 +105,4 @@ returns-3 c =
 
 pub new-answer-spec : {M : Type 1} → statement M
 new-answer-spec =
-    tie.close
-    (tie.spec
-    records-answer-requires
-    returns
-    steps-answer-requires
-    returns-2
-    bounds-of-requires
-    returns-3)
+    tie.close (tie.spec (λ c κs. search needs) returns steps-answer-requires returns-2 bounds-of-requires returns-3)

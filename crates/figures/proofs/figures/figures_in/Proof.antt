@@ -17,29 +17,8 @@ abbrev μ-loop : tie.MeasureT-loop
 loop-holds : tie.Need-loop-holds Inv-loop μ-loop
 loop-holds c = (omega arith, sym (filled-none mostFlows _))
 
-mul-at : tie.Need-mul-at Inv-loop μ-loop
-mul-at c = omega arith
-
-add-at : tie.Need-add-at Inv-loop μ-loop
-add-at c = omega arith
-
-shared-slice-read-figures : tie.Need-shared-slice-read-figures Inv-loop μ-loop
-shared-slice-read-figures c = omega arith
-
 cast-figures : tie.Need-cast-figures Inv-loop μ-loop
 cast-figures c = omega (arith, c .shared-slice-known .given (32 * c .before .before .before .args .l + c .before .before .loop .h))
-
-mul-figures : tie.Need-mul-figures Inv-loop μ-loop
-mul-figures c = omega arith
-
-array-write-figures : tie.Need-array-write-figures Inv-loop μ-loop
-array-write-figures c = omega arith
-
-add-h : tie.Need-add-h Inv-loop μ-loop
-add-h c = omega arith
-
-loop-less : tie.Need-loop-less Inv-loop μ-loop
-loop-less c = omega arith
 
 loop-again : tie.Need-loop-again Inv-loop μ-loop
 loop-again c =
@@ -55,18 +34,5 @@ returns c =
 
 pub figures-in-spec : {M : Type 1} → statement M
 figures-in-spec =
-    tie.close
-    (tie.spec
-    Inv-loop
-    μ-loop
-    loop-holds
-    mul-at
-    add-at
-    shared-slice-read-figures
-    cast-figures
-    mul-figures
-    array-write-figures
-    add-h
-    loop-less
-    loop-again
-    returns)
+    tie.close (tie.spec Inv-loop μ-loop loop-holds (λ c. omega arith) (λ c. omega arith) (λ c. omega arith) cast-figures
+    (λ c. omega arith) (λ c. omega arith) (λ c. omega arith) (λ c. omega arith) loop-again returns)

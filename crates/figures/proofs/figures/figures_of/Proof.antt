@@ -111,9 +111,6 @@ add-start c =
 add-h : tie.Need-add-h Inv-loop μ-loop
 add-h c = omega (arith, c .before .before .before .before .before .before .before .before .before .pre .most)
 
-loop-less : tie.Need-loop-less Inv-loop μ-loop
-loop-less c = omega arith
-
 loop-again : tie.Need-loop-again Inv-loop μ-loop
 loop-again c =
     let s = c .before .before .before .before .before .before .before .before .before in
@@ -134,20 +131,5 @@ returns c =
 
 pub figures-of-spec : {M : Type 1} → statement M
 figures-of-spec =
-    tie.close
-    (tie.spec
-    Inv-loop
-    μ-loop
-    plan-at-requires
-    loop-holds
-    len-at-requires
-    plan-part-requires
-    interference-requires
-    cast-figures
-    mul-figures
-    array-write-figures
-    add-start
-    add-h
-    loop-less
-    loop-again
-    returns)
+    tie.close (tie.spec Inv-loop μ-loop plan-at-requires loop-holds len-at-requires plan-part-requires interference-requires
+    cast-figures mul-figures array-write-figures add-start add-h (λ c. omega arith) loop-again returns)

@@ -30,14 +30,8 @@ Inv-loop columns records steps flows h square₀ start₀ l₀ square start l =
 abbrev μ-loop : tie.MeasureT-loop
 μ-loop columns records steps flows h square₀ start₀ l₀ square start l = flows - l
 
-add-steps-before : tie.Need-add-steps-before Inv-loop μ-loop
-add-steps-before c = omega arith
-
 steps-before-requires : tie.Need-steps-before-requires Inv-loop μ-loop
 steps-before-requires c κs = (omega arith, omega arith)
-
-add-l : tie.Need-add-l Inv-loop μ-loop
-add-l c = omega arith
 
 loop-holds : tie.Need-loop-holds Inv-loop μ-loop
 loop-holds c =
@@ -48,15 +42,6 @@ loop-holds c =
       c .steps-before .ensures .1,
       rw (add-one (start .args .h)) (filling-none _ _ _),
     )
-
-len-at-requires : tie.Need-len-at-requires Inv-loop μ-loop
-len-at-requires c κs = omega arith
-
-mul-at : tie.Need-mul-at Inv-loop μ-loop
-mul-at c = omega arith
-
-add-at : tie.Need-add-at Inv-loop μ-loop
-add-at c = omega arith
 
 plan-part-requires : tie.Need-plan-part-requires Inv-loop μ-loop
 plan-part-requires c κs = tt
@@ -93,12 +78,6 @@ slice-write-square c =
 add-start : tie.Need-add-start Inv-loop μ-loop
 add-start c = omega (arith, c .before .before .before .before .loop .inv .3, c .before .before .len-at .ensures .1, c .before .before .before .before .before .before .before .before .before .before .pre .0 .1)
 
-add-l-2 : tie.Need-add-l-2 Inv-loop μ-loop
-add-l-2 c = omega arith
-
-loop-less : tie.Need-loop-less Inv-loop μ-loop
-loop-less c = omega arith
-
 loop-again : tie.Need-loop-again Inv-loop μ-loop
 loop-again c =
     let start = c .before .before .before .before .before .before .before .before .before .before in
@@ -124,24 +103,6 @@ returns c =
 
 pub fill-spec : {M : Type 1} → statement M
 fill-spec =
-    tie.close
-    (tie.spec
-    Inv-loop
-    μ-loop
-    add-steps-before
-    steps-before-requires
-    add-l
-    loop-holds
-    len-at-requires
-    mul-at
-    add-at
-    plan-part-requires
-    figure-requires
-    cast-square
-    slice-write-square
-    add-start
-    add-l-2
-    loop-less
-    loop-again
-    same-length
-    returns)
+    tie.close (tie.spec Inv-loop μ-loop (λ c. omega arith) steps-before-requires (λ c. omega arith) loop-holds
+    (λ c κs. omega arith) (λ c. omega arith) (λ c. omega arith) plan-part-requires figure-requires cast-square slice-write-square
+    add-start (λ c. omega arith) (λ c. omega arith) loop-again same-length returns)

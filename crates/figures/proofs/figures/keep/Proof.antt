@@ -12,17 +12,8 @@ use Rattle.figures.proofs.figures.keep.Tie as tie
 returns : tie.Need-returns
 returns c = record { size = refl; filled = λ some. absurd (omega arith) }
 
-add-if2 : tie.Need-add-if2
-add-if2 c = search needs
-
 returns-2 : tie.Need-returns-2
 returns-2 c = keeps-last _ _ _ _ _ _ (c .if2 .taken)
-
-plan-at-requires : tie.Need-plan-at-requires
-plan-at-requires c κs = search needs
-
-slice-aggregate-gather : tie.Need-slice-aggregate-gather
-slice-aggregate-gather c = search needs
 
 gather-requires : tie.Need-gather-requires
 gather-requires c κs =
@@ -35,9 +26,6 @@ gather-requires c κs =
       λ x h. zeros 64 x,
       omega (arith, s .pre .1 (omega arith) .0 .size),
     )
-
-slice-aggregate-fill : tie.Need-slice-aggregate-fill
-slice-aggregate-fill c = search needs
 
 fill-requires : tie.Need-fill-requires
 fill-requires c κs =
@@ -56,9 +44,6 @@ fill-requires c κs =
           (within .sender .numbered, within .receiver .numbered),
     )
 
-same-length : tie.Need-same-length
-same-length c = search needs
-
 returns-3 : tie.Need-returns-3
 returns-3 c =
     let s = c .before .before .before .before .before .before .before .before .before .before .before .before .before .before .before .before in
@@ -69,15 +54,5 @@ returns-3 c =
 
 pub keep-spec : {M : Type 1} → statement M
 keep-spec =
-    tie.close
-    (tie.spec
-    returns
-    add-if2
-    returns-2
-    plan-at-requires
-    slice-aggregate-gather
-    gather-requires
-    slice-aggregate-fill
-    fill-requires
-    same-length
-    returns-3)
+    tie.close (tie.spec returns (λ c. search needs) returns-2 (λ c κs. search needs) (λ c. search needs) gather-requires
+    (λ c. search needs) fill-requires (λ c. search needs) returns-3)

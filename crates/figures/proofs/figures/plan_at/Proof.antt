@@ -6,15 +6,6 @@ use borrow.Author.Needs.{needs}
 use Rattle.figures.proofs.figures.plan_at.Statement.{statement}
 use Rattle.figures.proofs.figures.plan_at.Tie as tie
 
-steps-before-requires : tie.Need-steps-before-requires
-steps-before-requires c κs = search needs
-
-len-at-requires : tie.Need-len-at-requires
-len-at-requires c κs = search needs
-
-plan-part-requires : tie.Need-plan-part-requires
-plan-part-requires c κs = search needs
-
 returns : tie.Need-returns
 returns c =
     let args = c .before .before .before .before .before .args in
@@ -22,4 +13,4 @@ returns c =
 
 pub plan-at-spec : {M : Type 1} → statement M
 plan-at-spec =
-    tie.close (tie.spec steps-before-requires len-at-requires plan-part-requires returns)
+    tie.close (tie.spec (λ c κs. search needs) (λ c κs. search needs) (λ c κs. search needs) returns)

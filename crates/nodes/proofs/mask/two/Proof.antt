@@ -7,17 +7,8 @@ use borrow.Author.Needs.{needs}
 use Rattle.nodes.proofs.mask.two.Statement.{statement}
 use Rattle.nodes.proofs.mask.two.Tie as tie
 
-add-joined : tie.Need-add-joined
-add-joined c = search needs
-
-shared-slice-read-joined : tie.Need-shared-slice-read-joined
-shared-slice-read-joined c = search needs
-
 cast-joined : tie.Need-cast-joined
 cast-joined c = omega (arith, c .shared-slice-known2 .given (c .before .before .args .at + 1))
-
-shared-slice-read-joined-2 : tie.Need-shared-slice-read-joined-2
-shared-slice-read-joined-2 c = search needs
 
 cast-joined-2 : tie.Need-cast-joined-2
 cast-joined-2 c = omega (arith, c .shared-slice-known3 .given (c .before .before .before .args .at))
@@ -34,12 +25,5 @@ returns c =
 
 pub two-spec : {M : Type 1} → statement M
 two-spec =
-    tie.close
-    (tie.spec
-    add-joined
-    shared-slice-read-joined
-    cast-joined
-    shared-slice-read-joined-2
-    cast-joined-2
-    joined-requires
+    tie.close (tie.spec (λ c. search needs) (λ c. search needs) cast-joined (λ c. search needs) cast-joined-2 joined-requires
     returns)

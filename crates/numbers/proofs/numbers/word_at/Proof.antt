@@ -7,20 +7,11 @@ use Rattle.trade.specs.Bytes.{word}
 use Rattle.numbers.proofs.numbers.word_at.Statement.{statement}
 use Rattle.numbers.proofs.numbers.word_at.Tie as tie
 
-shared-slice-read-result : tie.Need-shared-slice-read-result
-shared-slice-read-result c = search needs
-
 cast-result : tie.Need-cast-result
 cast-result c = omega (arith, c .shared-slice-known .given (c .before .args .at))
 
 mul-result : tie.Need-mul-result
 mul-result c = omega (arith, c .shared-slice-known .given (c .before .args .at))
-
-add-result : tie.Need-add-result
-add-result c = search needs
-
-shared-slice-read-result-2 : tie.Need-shared-slice-read-result-2
-shared-slice-read-result-2 c = search needs
 
 cast-result-2 : tie.Need-cast-result-2
 cast-result-2 c = omega (arith, c .shared-slice-known2 .given (c .before .before .args .at + 1))
@@ -39,13 +30,5 @@ returns c = refl
 
 pub word-at-spec : {M : Type 1} → statement M
 word-at-spec =
-    tie.close
-    (tie.spec
-    shared-slice-read-result
-    cast-result
-    mul-result
-    add-result
-    shared-slice-read-result-2
-    cast-result-2
-    add-result-2
-    returns)
+    tie.close (tie.spec (λ c. search needs) cast-result mul-result (λ c. search needs) (λ c. search needs) cast-result-2
+    add-result-2 returns)

@@ -10,21 +10,6 @@ use borrow.Author.Needs.{needs}
 use Rattle.numbers.proofs.pasting.put_at.Statement.{statement}
 use Rattle.numbers.proofs.pasting.put_at.Tie as tie
 
-sub-copy : tie.Need-sub-copy
-sub-copy c = search needs
-
-part-copy-start : tie.Need-part-copy-start
-part-copy-start c = search needs
-
-part-copy-end : tie.Need-part-copy-end
-part-copy-end c = search needs
-
-copy-requires : tie.Need-copy-requires
-copy-requires c κs = search needs
-
-same-length : tie.Need-same-length
-same-length c = search needs
-
 returns : tie.Need-returns
 returns c =
     let a = c .before .before .before .before .before .before .args in
@@ -34,4 +19,5 @@ returns c =
 
 pub put-at-spec : {M : Type 1} → statement M
 put-at-spec =
-    tie.close (tie.spec sub-copy part-copy-start part-copy-end copy-requires same-length returns)
+    tie.close (tie.spec (λ c. search needs) (λ c. search needs) (λ c. search needs) (λ c κs. search needs) (λ c. search needs)
+    returns)

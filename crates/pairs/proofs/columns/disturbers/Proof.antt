@@ -43,12 +43,6 @@ only-requires c κs = omega (arith, c .before .before .before .loop .inv .2)
 spread-requires : tie.Need-spread-requires Inv-loop μ-loop
 spread-requires c κs = omega (arith, c .before .before .before .before .loop .inv .0 .size)
 
-add-x : tie.Need-add-x Inv-loop μ-loop
-add-x c = omega arith
-
-loop-less : tie.Need-loop-less Inv-loop μ-loop
-loop-less c = omega arith
-
 loop-again : tie.Need-loop-again Inv-loop μ-loop
 loop-again c =
     let rows : List ℕ = c .before .before .before .before .before .before .before .before .before .args .rows .now in
@@ -68,18 +62,5 @@ returns c =
 
 pub disturbers-spec : {M : Type 1} → statement M
 disturbers-spec =
-    tie.close
-    (tie.spec
-    Inv-loop
-    μ-loop
-    nodes-of-requires
-    loop-holds
-    cast-number
-    slice-aggregate-spread
-    row-mask-requires
-    only-requires
-    spread-requires
-    add-x
-    loop-less
-    loop-again
-    returns)
+    tie.close (tie.spec Inv-loop μ-loop nodes-of-requires loop-holds cast-number slice-aggregate-spread row-mask-requires
+    only-requires spread-requires (λ c. omega arith) (λ c. omega arith) loop-again returns)

@@ -23,9 +23,6 @@ step-count-requires c κs = tt
 loop-holds : tie.Need-loop-holds Inv-loop μ-loop
 loop-holds c = rw (c .step-count .ensures) (reached-none _ _, omega arith, omega arith)
 
-sub-i : tie.Need-sub-i Inv-loop μ-loop
-sub-i c = omega arith
-
 step-at-requires : tie.Need-step-at-requires Inv-loop μ-loop
 step-at-requires c κs = omega (arith, c .before .loop .inv .1)
 
@@ -38,9 +35,6 @@ marks-of-requires c κs =
 
 joined-requires : tie.Need-joined-requires Inv-loop μ-loop
 joined-requires c κs = tt
-
-loop-less : tie.Need-loop-less Inv-loop μ-loop
-loop-less c = omega arith
 
 loop-again : tie.Need-loop-again Inv-loop μ-loop
 loop-again c =
@@ -68,17 +62,5 @@ returns c =
 
 pub figure-spec : {M : Type 1} → statement M
 figure-spec =
-    tie.close
-    (tie.spec
-    Inv-loop
-    μ-loop
-    step-count-requires
-    loop-holds
-    sub-i
-    step-at-requires
-    marks-of-requires
-    joined-requires
-    loop-less
-    loop-again
-    cast-result
-    returns)
+    tie.close (tie.spec Inv-loop μ-loop step-count-requires loop-holds (λ c. omega arith) step-at-requires marks-of-requires
+    joined-requires (λ c. omega arith) loop-again cast-result returns)

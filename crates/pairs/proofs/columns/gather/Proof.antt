@@ -31,12 +31,6 @@ loop-holds c =
     let start = c .before .before .before .before .before in
     (omega arith, c .step-count .ensures, refl, columns-none _ _ _ _ (start .pre .3), λ x h. refl)
 
-sub-step-at : tie.Need-sub-step-at Inv-loop μ-loop
-sub-step-at c = omega arith
-
-sub-step-at-2 : tie.Need-sub-step-at-2 Inv-loop μ-loop
-sub-step-at-2 c = omega arith
-
 step-at-requires : tie.Need-step-at-requires Inv-loop μ-loop
 step-at-requires c κs = omega (arith, c .before .loop .inv .1)
 
@@ -50,12 +44,6 @@ note-requires c κs =
       omega (arith, loop .inv .2, start .pre .2),
       start .pre .4,
     )
-
-add-b : tie.Need-add-b Inv-loop μ-loop
-add-b c = omega arith
-
-loop-less : tie.Need-loop-less Inv-loop μ-loop
-loop-less c = omega arith
 
 loop-again : tie.Need-loop-again Inv-loop μ-loop
 loop-again c =
@@ -85,18 +73,5 @@ returns c =
 
 pub gather-spec : {M : Type 1} → statement M
 gather-spec =
-    tie.close
-    (tie.spec
-    Inv-loop
-    μ-loop
-    step-count-requires
-    loop-holds
-    sub-step-at
-    sub-step-at-2
-    step-at-requires
-    note-requires
-    add-b
-    loop-less
-    loop-again
-    same-length
-    returns)
+    tie.close (tie.spec Inv-loop μ-loop step-count-requires loop-holds (λ c. omega arith) (λ c. omega arith) step-at-requires
+    note-requires (λ c. omega arith) (λ c. omega arith) loop-again same-length returns)

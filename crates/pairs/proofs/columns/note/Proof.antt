@@ -16,42 +16,6 @@ use borrow.Author.Needs.{needs}
 use Rattle.pairs.proofs.columns.note.Statement.{statement}
 use Rattle.pairs.proofs.columns.note.Tie as tie
 
-only-requires : tie.Need-only-requires
-only-requires c κs = search needs
-
-only-requires-2 : tie.Need-only-requires-2
-only-requires-2 c κs = search needs
-
-row-mask-requires : tie.Need-row-mask-requires
-row-mask-requires c κs = search needs
-
-cast-sending : tie.Need-cast-sending
-cast-sending c = search needs
-
-mul-sending : tie.Need-mul-sending
-mul-sending c = search needs
-
-shared-slice-read-sending : tie.Need-shared-slice-read-sending
-shared-slice-read-sending c = search needs
-
-shl-spread : tie.Need-shl-spread
-shl-spread c = search needs
-
-spread-requires : tie.Need-spread-requires
-spread-requires c κs = search needs
-
-add-spread : tie.Need-add-spread
-add-spread c = search needs
-
-shl-spread-2 : tie.Need-shl-spread-2
-shl-spread-2 c = search needs
-
-spread-requires-2 : tie.Need-spread-requires-2
-spread-requires-2 c κs = search needs
-
-same-length : tie.Need-same-length
-same-length c = search needs
-
 -- the sets that the marks are spread over
 abbrev receivers : tie.After-slice-known3 → ℕ
 receivers c = bitOr (c .before .before .before .before .before .before .before .before .before .before .row-mask .result) (bitOr (c .before .before .before .before .before .before .before .before .before .before .before .before .only .result) (c .before .before .before .before .before .before .before .before .before .before .before .only2 .result))
@@ -75,18 +39,6 @@ returns c =
 
 pub note-spec : {M : Type 1} → statement M
 note-spec =
-    tie.close
-    (tie.spec
-    only-requires
-    only-requires-2
-    row-mask-requires
-    cast-sending
-    mul-sending
-    shared-slice-read-sending
-    shl-spread
-    spread-requires
-    add-spread
-    shl-spread-2
-    spread-requires-2
-    same-length
-    returns)
+    tie.close (tie.spec (λ c κs. search needs) (λ c κs. search needs) (λ c κs. search needs) (λ c. search needs)
+    (λ c. search needs) (λ c. search needs) (λ c. search needs) (λ c κs. search needs) (λ c. search needs) (λ c. search needs)
+    (λ c κs. search needs) (λ c. search needs) returns)

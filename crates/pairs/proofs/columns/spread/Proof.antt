@@ -44,9 +44,6 @@ mul-table-2 c = omega (arith, trailing-le 64 (c .before .before .loop .rest))
 slice-write-table : tie.Need-slice-write-table Inv-loop μ-loop
 slice-write-table c = inside c
 
-sub-rest : tie.Need-sub-rest Inv-loop μ-loop
-sub-rest c = omega arith
-
 loop-less : tie.Need-loop-less Inv-loop μ-loop
 loop-less c = let rest : ℕ = c .before .before .loop .rest in omega (arith, and-le-r rest (rest - 1))
 
@@ -65,18 +62,5 @@ returns c =
 
 pub spread-spec : {M : Type 1} → statement M
 spread-spec =
-    tie.close
-    (tie.spec
-    Inv-loop
-    μ-loop
-    loop-holds
-    cast-x
-    mul-table
-    slice-read-table
-    mul-table-2
-    slice-write-table
-    sub-rest
-    loop-less
-    loop-again
-    same-length
-    returns)
+    tie.close (tie.spec Inv-loop μ-loop loop-holds cast-x mul-table slice-read-table mul-table-2 slice-write-table
+    (λ c. omega arith) loop-less loop-again same-length returns)

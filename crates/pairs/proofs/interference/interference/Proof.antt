@@ -18,12 +18,6 @@ abbrev μ-loop : tie.MeasureT-loop
 loop-holds : tie.Need-loop-holds Inv-loop μ-loop
 loop-holds c = columns-none _ _ _
 
-sub-j : tie.Need-sub-j Inv-loop μ-loop
-sub-j c = omega arith
-
-step-at-requires : tie.Need-step-at-requires Inv-loop μ-loop
-step-at-requires c κs = omega arith
-
 work-in-requires : tie.Need-work-in-requires Inv-loop μ-loop
 work-in-requires c κs =
     let loop = c .before .before .before .loop in
@@ -35,17 +29,11 @@ work-in-requires c κs =
       columns-line _ _ _ _ (loop .j - 1) (omega arith) (rw e at (loop .inv)),
     )
 
-loop-less : tie.Need-loop-less Inv-loop μ-loop
-loop-less c = omega arith
-
 loop-again : tie.Need-loop-again Inv-loop μ-loop
 loop-again c =
     let loop = c .before .before .before .before .loop in
     let e : loop .j ≡ suc (loop .j - 1) = omega arith in
     columns-more _ _ _ _ _ (loop .j - 1) (rw e at (loop .inv)) (rw (c .before .before .step-at .ensures) at (c .work-in .ensures))
-
-array-read-result : tie.Need-array-read-result Inv-loop μ-loop
-array-read-result c = omega arith
 
 cast-result : tie.Need-cast-result Inv-loop μ-loop
 cast-result c = omega (arith, columns-at-most _ _ _ _ _ (c .before .loop .inv) 0)
@@ -58,16 +46,5 @@ returns c =
 
 pub interference-spec : {M : Type 1} → statement M
 interference-spec =
-    tie.close
-    (tie.spec
-    Inv-loop
-    μ-loop
-    loop-holds
-    sub-j
-    step-at-requires
-    work-in-requires
-    loop-less
-    loop-again
-    array-read-result
-    cast-result
-    returns)
+    tie.close (tie.spec Inv-loop μ-loop loop-holds (λ c. omega arith) (λ c κs. omega arith) work-in-requires (λ c. omega arith)
+    loop-again (λ c. omega arith) cast-result returns)

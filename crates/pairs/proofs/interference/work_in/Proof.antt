@@ -21,23 +21,8 @@ Inv-loop rows l line₀ held best₀ i₀ line best i =
 abbrev μ-loop : tie.MeasureT-loop
 μ-loop rows l line₀ held best₀ i₀ line best i = i
 
-empty-requires : tie.Need-empty-requires Inv-loop μ-loop
-empty-requires c κs = search needs
-
-with-requires : tie.Need-with-requires Inv-loop μ-loop
-with-requires c κs = search needs
-
 loop-holds : tie.Need-loop-holds Inv-loop μ-loop
 loop-holds c = working-none _ _ _
-
-sub-i : tie.Need-sub-i Inv-loop μ-loop
-sub-i c = omega arith
-
-element-copy-out-best-of : tie.Need-element-copy-out-best-of Inv-loop μ-loop
-element-copy-out-best-of c = omega arith
-
-step-at-requires : tie.Need-step-at-requires Inv-loop μ-loop
-step-at-requires c κs = omega arith
 
 clashes-requires : tie.Need-clashes-requires Inv-loop μ-loop
 clashes-requires c κs =
@@ -50,12 +35,6 @@ best-of-requires c κs =
     let start = c .before .before .before .before .before .before .before .before .before in
     let loop = c .before .before .before .before .loop in
     rw (loop .inv .ahead (loop .i - 1) (omega arith)) (start .pre .3 .room (loop .i - 1))
-
-element-write-line : tie.Need-element-write-line Inv-loop μ-loop
-element-write-line c = omega arith
-
-loop-less : tie.Need-loop-less Inv-loop μ-loop
-loop-less c = omega arith
 
 loop-again : tie.Need-loop-again Inv-loop μ-loop
 loop-again c =
@@ -79,19 +58,6 @@ returns c =
 
 pub work-in-spec : {M : Type 1} → statement M
 work-in-spec =
-    tie.close
-    (tie.spec
-    Inv-loop
-    μ-loop
-    empty-requires
-    with-requires
-    loop-holds
-    sub-i
-    element-copy-out-best-of
-    step-at-requires
-    clashes-requires
-    best-of-requires
-    element-write-line
-    loop-less
-    loop-again
+    tie.close (tie.spec Inv-loop μ-loop (λ c κs. search needs) (λ c κs. search needs) loop-holds (λ c. omega arith)
+    (λ c. omega arith) (λ c κs. omega arith) clashes-requires best-of-requires (λ c. omega arith) (λ c. omega arith) loop-again
     returns)

@@ -23,9 +23,6 @@ opened c = open-book (now (c .before .before .before .before .before .before .be
 lent : (c : tie.Else3) → grantBytes * said (now (c .before .before .before .before .before .before .before .before .before .before .args .book)) .flows ≤ length (now (c .before .before .before .before .before .before .before .before .before .before .args .grants))
 lent c = rw (← opened (c .before .before .before) .flows) (c .if3 .left)
 
-open-book-requires : tie.Need-open-book-requires
-open-book-requires c κs = search needs
-
 returns : tie.Need-returns
 unfolding openedOf
 returns c =
@@ -34,9 +31,6 @@ returns c =
     advance-refused (now (a .book)) (now (a .area)) (now (a .grants)) (c .before .before .before .open-book .result .answer)
     (book-refused (now (a .book)) (now (a .area)) (now (a .grants)) (λ z. c .if1 .taken (ap (λ (r : Answer). r .code) answer ∙ z)) ∙ sym answer)
     (c .if1 .taken)
-
-refused-requires : tie.Need-refused-requires
-refused-requires c κs = search needs
 
 returns-2 : tie.Need-returns-2
 returns-2 c =
@@ -47,9 +41,6 @@ returns-2 c =
 
 mul-if3 : tie.Need-mul-if3
 mul-if3 c = omega (arith, opened (c .before .before) .lies .flows)
-
-refused-requires-2 : tie.Need-refused-requires-2
-refused-requires-2 c κs = search needs
 
 returns-3 : tie.Need-returns-3
 returns-3 c =
@@ -76,12 +67,6 @@ run-slot-requires c κs =
       c .before .before .before .before .before .if3 .left,
     )
 
-same-length : tie.Need-same-length
-same-length c = search needs
-
-same-length-2 : tie.Need-same-length-2
-same-length-2 c = search needs
-
 returns-4 : tie.Need-returns-4
 unfolding said factsOf
 returns-4 c =
@@ -92,19 +77,5 @@ returns-4 c =
 
 pub advance-spec : {M : Type 1} → statement M
 advance-spec =
-    tie.close
-    (tie.spec
-    open-book-requires
-    returns
-    refused-requires
-    returns-2
-    mul-if3
-    refused-requires-2
-    returns-3
-    rows-of-requires
-    records-of-requires
-    steps-of-requires
-    run-slot-requires
-    same-length
-    same-length-2
-    returns-4)
+    tie.close (tie.spec (λ c κs. search needs) returns (λ c κs. search needs) returns-2 mul-if3 (λ c κs. search needs) returns-3
+    rows-of-requires records-of-requires steps-of-requires run-slot-requires (λ c. search needs) (λ c. search needs) returns-4)

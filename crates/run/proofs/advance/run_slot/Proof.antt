@@ -27,16 +27,10 @@ passed :
     → slotAnswer (factsIn 0 (c .before .before .before .before .before .before .before .before .before .before .before .args .flows) (now (c .before .before .before .before .before .before .before .before .before .before .before .args .rows)) (now (c .before .before .before .before .before .before .before .before .before .before .before .args .records)) (now (c .before .before .before .before .before .before .before .before .before .before .before .args .steps))) (now (c .before .before .before .before .before .before .before .before .before .before .before .args .area)) .code ≡ 0
 passed c = sym (ap (λ (r : Answer). r .code) (answered (c .before .before .before))) ∙ c .if1 .left
 
-read-run-requires : tie.Need-read-run-requires
-read-run-requires c κs = search needs
-
 due-in-requires : tie.Need-due-in-requires
 due-in-requires c κs =
     let formed = c .before .before .before .before .before .before .before .pre .0 in
     (formed .recorded, λ i h. formed .fields i h .period .0, formed .most, c .read-run .ensures .size)
-
-same-length : tie.Need-same-length
-same-length c = search needs
 
 returns : tie.Need-returns
 returns c =
@@ -47,9 +41,6 @@ returns c =
       area = λ z. absurd (c .if1 .taken (ap (λ (r : Answer). r .code) e ∙ z));
       grants = λ z. absurd (c .if1 .taken (ap (λ (r : Answer). r .code) e ∙ z));
     }
-
-chosen-requires : tie.Need-chosen-requires
-chosen-requires c κs = search needs
 
 grant-all-requires : tie.Need-grant-all-requires
 grant-all-requires c κs =
@@ -63,15 +54,6 @@ grant-all-requires c κs =
 
 write-run-requires : tie.Need-write-run-requires
 write-run-requires c κs = c .before .before .before .before .before .before .before .before .before .before .before .before .before .before .before .before .before .before .before .before .pre .1
-
-done-requires : tie.Need-done-requires
-done-requires c κs = search needs
-
-same-length-2 : tie.Need-same-length-2
-same-length-2 c = search needs
-
-same-length-3 : tie.Need-same-length-3
-same-length-3 c = search needs
 
 returns-2 : tie.Need-returns-2
 returns-2 c =
@@ -87,16 +69,5 @@ returns-2 c =
 
 pub run-slot-spec : {M : Type 1} → statement M
 run-slot-spec =
-    tie.close
-    (tie.spec
-    read-run-requires
-    due-in-requires
-    same-length
-    returns
-    chosen-requires
-    grant-all-requires
-    write-run-requires
-    done-requires
-    same-length-2
-    same-length-3
-    returns-2)
+    tie.close (tie.spec (λ c κs. search needs) due-in-requires (λ c. search needs) returns (λ c κs. search needs)
+    grant-all-requires write-run-requires (λ c κs. search needs) (λ c. search needs) (λ c. search needs) returns-2)

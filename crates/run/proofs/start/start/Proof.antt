@@ -33,9 +33,6 @@ checked c =
 accepted : (c : tie.Else2) → checkAnswer (now (c .before .before .before .before .before .before .before .before .before .before .before .before .before .before .args .book)) .code ≡ 0
 accepted c = sym (ap (λ (r : Answer). r .code) (checked (c .before .before .before))) ∙ c .if2 .left
 
-open-book-requires : tie.Need-open-book-requires
-open-book-requires c κs = search needs
-
 returns : tie.Need-returns
 unfolding openedOf
 returns c =
@@ -67,9 +64,6 @@ returns-2 c =
     (check-refuses (now (a .book)) (now (a .area)) (λ z. c .if2 .taken (ap (λ (r : Answer). r .code) e ∙ z)) ∙ sym e)
     (c .if2 .taken)
 
-refused-requires : tie.Need-refused-requires
-refused-requires c κs = search needs
-
 returns-3 : tie.Need-returns-3
 returns-3 c =
     let a = c .before .before .before .before .before .before .before .before .before .before .before .before .before .before .before .before .args in
@@ -80,15 +74,6 @@ returns-3 c =
 started-requires : tie.Need-started-requires
 started-requires c κs = rw (c .before .before .before .before .before .before .before .before .rows-of .ensures, c .before .before .before .before .before .before .before .records-of .ensures, c .before .before .before .before .before .before .steps-of .ensures) (opened (c .before .before .before .before .before .before .before .before .before .before) .formed)
 
-write-run-requires : tie.Need-write-run-requires
-write-run-requires c κs = search needs
-
-done-requires : tie.Need-done-requires
-done-requires c κs = search needs
-
-same-length : tie.Need-same-length
-same-length c = search needs
-
 returns-4 : tie.Need-returns-4
 returns-4 c =
     let a = c .before .before .before .before .before .before .before .before .before .before .before .before .before .before .before .before .before .before .before .before .before .args in
@@ -98,19 +83,6 @@ returns-4 c =
 
 pub start-spec : {M : Type 1} → statement M
 start-spec =
-    tie.close
-    (tie.spec
-    open-book-requires
-    returns
-    rows-of-requires
-    records-of-requires
-    steps-of-requires
-    bounds-of-requires
-    returns-2
-    refused-requires
-    returns-3
-    started-requires
-    write-run-requires
-    done-requires
-    same-length
+    tie.close (tie.spec (λ c κs. search needs) returns rows-of-requires records-of-requires steps-of-requires bounds-of-requires
+    returns-2 (λ c κs. search needs) returns-3 started-requires (λ c κs. search needs) (λ c κs. search needs) (λ c. search needs)
     returns-4)

@@ -25,9 +25,6 @@ Inv-loop flows rows records steps slot places₀ i₀ places i =
 abbrev μ-loop : tie.MeasureT-loop
 μ-loop flows rows records steps slot places₀ i₀ places i = flows - i
 
-empty-requires : tie.Need-empty-requires Inv-loop μ-loop
-empty-requires c κs = search needs
-
 loop-holds : tie.Need-loop-holds Inv-loop μ-loop
 loop-holds c =
     let empty = c .before .before .empty .ensures in (
@@ -38,23 +35,8 @@ loop-holds c =
       λ k h. ap (λ (r : Run). placeOf (r .flows) k) empty ∙ unused k,
     )
 
-len-at-requires : tie.Need-len-at-requires Inv-loop μ-loop
-len-at-requires c κs = search needs
-
 cast-idle : tie.Need-cast-idle Inv-loop μ-loop
 cast-idle c = omega (arith, c .len-at .ensures .0, c .before .before .before .before .before .before .before .before .before .pre .fields (c .before .before .loop .i) (c .before .loop-test .taken) .len .1)
-
-idle-requires : tie.Need-idle-requires Inv-loop μ-loop
-idle-requires c κs = search needs
-
-array-set-from-places : tie.Need-array-set-from-places Inv-loop μ-loop
-array-set-from-places c = search needs
-
-add-i : tie.Need-add-i Inv-loop μ-loop
-add-i c = search needs
-
-loop-less : tie.Need-loop-less Inv-loop μ-loop
-loop-less c = search needs
 
 loop-again : tie.Need-loop-again Inv-loop μ-loop
 loop-again c =
@@ -78,17 +60,5 @@ returns c =
 
 pub started-spec : {M : Type 1} → statement M
 started-spec =
-    tie.close
-    (tie.spec
-    Inv-loop
-    μ-loop
-    empty-requires
-    loop-holds
-    len-at-requires
-    cast-idle
-    idle-requires
-    array-set-from-places
-    add-i
-    loop-less
-    loop-again
-    returns)
+    tie.close (tie.spec Inv-loop μ-loop (λ c κs. search needs) loop-holds (λ c κs. search needs) cast-idle (λ c κs. search needs)
+    (λ c. search needs) (λ c. search needs) (λ c. search needs) loop-again returns)

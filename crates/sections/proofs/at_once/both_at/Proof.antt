@@ -6,23 +6,11 @@ use borrow.Author.Needs.{needs}
 use Rattle.sections.proofs.at_once.both_at.Statement.{statement}
 use Rattle.sections.proofs.at_once.both_at.Tie as tie
 
-mul-at : tie.Need-mul-at
-mul-at c = search needs
-
-add-result : tie.Need-add-result
-add-result c = search needs
-
-shared-slice-read-result : tie.Need-shared-slice-read-result
-shared-slice-read-result c = search needs
-
 cast-result : tie.Need-cast-result
 cast-result c = omega (arith, c .shared-slice-known .given (2 * c .before .args .k + 1))
 
 mul-result : tie.Need-mul-result
 mul-result c = omega (arith, c .shared-slice-known .given (2 * c .before .args .k + 1))
-
-shared-slice-read-result-2 : tie.Need-shared-slice-read-result-2
-shared-slice-read-result-2 c = search needs
 
 cast-result-2 : tie.Need-cast-result-2
 cast-result-2 c = omega (arith, c .shared-slice-known2 .given (2 * c .before .before .args .k))
@@ -36,14 +24,5 @@ returns c = (omega (arith, c .shared-slice-known2 .given (2 * c .before .before 
 
 pub both-at-spec : {M : Type 1} → statement M
 both-at-spec =
-    tie.close
-    (tie.spec
-    mul-at
-    add-result
-    shared-slice-read-result
-    cast-result
-    mul-result
-    shared-slice-read-result-2
-    cast-result-2
-    add-result-2
-    returns)
+    tie.close (tie.spec (λ c. search needs) (λ c. search needs) (λ c. search needs) cast-result mul-result (λ c. search needs)
+    cast-result-2 add-result-2 returns)

@@ -38,26 +38,14 @@ loop-holds : tie.Need-loop-holds Inv-loop μ-loop
 unfolding sumTo
 loop-holds c = (omega arith, refl, omega arith, refl)
 
-len-at-requires : tie.Need-len-at-requires Inv-loop μ-loop
-len-at-requires c κs = omega arith
-
 starts-anew-requires : tie.Need-starts-anew-requires Inv-loop μ-loop
 starts-anew-requires c κs = room c
 
 counted-requires : tie.Need-counted-requires Inv-loop μ-loop
 counted-requires c κs = tt
 
-add-anew : tie.Need-add-anew Inv-loop μ-loop
-add-anew c = omega arith
-
 add-all : tie.Need-add-all Inv-loop μ-loop
 add-all c = omega (arith, room (c .before .before))
-
-add-i : tie.Need-add-i Inv-loop μ-loop
-add-i c = omega arith
-
-loop-less : tie.Need-loop-less Inv-loop μ-loop
-loop-less c = omega arith
 
 loop-again : tie.Need-loop-again Inv-loop μ-loop
 unfolding startsAnew
@@ -80,17 +68,5 @@ returns c =
 
 pub count-anew-spec : {M : Type 1} → statement M
 count-anew-spec =
-    tie.close
-    (tie.spec
-    Inv-loop
-    μ-loop
-    loop-holds
-    len-at-requires
-    starts-anew-requires
-    counted-requires
-    add-anew
-    add-all
-    add-i
-    loop-less
-    loop-again
-    returns)
+    tie.close (tie.spec Inv-loop μ-loop loop-holds (λ c κs. omega arith) starts-anew-requires counted-requires (λ c. omega arith)
+    add-all (λ c. omega arith) (λ c. omega arith) loop-again returns)

@@ -19,9 +19,6 @@ Inv-loop steps all first count₀ k₀ count k =
 abbrev μ-loop : tie.MeasureT-loop
 μ-loop steps all first count₀ k₀ count k = all - k
 
-both-at-requires : tie.Need-both-at-requires Inv-loop μ-loop
-both-at-requires c κs = omega arith
-
 counted-requires : tie.Need-counted-requires Inv-loop μ-loop
 counted-requires c κs = tt
 
@@ -42,15 +39,6 @@ is-off-requires c κs = (omega arith, omega arith)
 counted-requires-2 : tie.Need-counted-requires-2 Inv-loop μ-loop
 counted-requires-2 c κs = tt
 
-add-count : tie.Need-add-count Inv-loop μ-loop
-add-count c = omega arith
-
-add-k : tie.Need-add-k Inv-loop μ-loop
-add-k c = omega arith
-
-loop-less : tie.Need-loop-less Inv-loop μ-loop
-loop-less c = omega arith
-
 loop-again : tie.Need-loop-again Inv-loop μ-loop
 loop-again c =
     let steps = now (c .before .before .before .before .before .before .before .args .steps) in
@@ -66,17 +54,5 @@ returns c =
 
 pub count-off-spec : {M : Type 1} → statement M
 count-off-spec =
-    tie.close
-    (tie.spec
-    Inv-loop
-    μ-loop
-    both-at-requires
-    counted-requires
-    loop-holds
-    is-off-requires
-    counted-requires-2
-    add-count
-    add-k
-    loop-less
-    loop-again
-    returns)
+    tie.close (tie.spec Inv-loop μ-loop (λ c κs. omega arith) counted-requires loop-holds is-off-requires counted-requires-2
+    (λ c. omega arith) (λ c. omega arith) (λ c. omega arith) loop-again returns)

@@ -15,12 +15,6 @@ use borrow.Author.Needs.{needs}
 use Rattle.sections.proofs.at_once.counts_agree.Statement.{statement}
 use Rattle.sections.proofs.at_once.counts_agree.Tie as tie
 
-count-anew-requires : tie.Need-count-anew-requires
-count-anew-requires c κs = search needs
-
-mul-if1 : tie.Need-mul-if1
-mul-if1 c = search needs
-
 -- what is counted lies within the limits
 within :
     (c : tie.Else1)
@@ -32,15 +26,6 @@ within c =
 
 returns : tie.Need-returns
 returns c = λ e. absurd (not-both e refl)
-
-mul-highest : tie.Need-mul-highest
-mul-highest c = search needs
-
-highest-requires : tie.Need-highest-requires
-highest-requires c κs = search needs
-
-cast-inside : tie.Need-cast-inside
-cast-inside c = search needs
 
 count-off-requires : tie.Need-count-off-requires
 count-off-requires c κs = (
@@ -67,13 +52,5 @@ returns-2 c =
 
 pub counts-agree-spec : {M : Type 1} → statement M
 counts-agree-spec =
-    tie.close
-    (tie.spec
-    count-anew-requires
-    mul-if1
-    returns
-    mul-highest
-    highest-requires
-    cast-inside
-    count-off-requires
-    returns-2)
+    tie.close (tie.spec (λ c κs. search needs) (λ c. search needs) returns (λ c. search needs) (λ c κs. search needs)
+    (λ c. search needs) count-off-requires returns-2)

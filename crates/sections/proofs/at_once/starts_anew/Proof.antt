@@ -14,12 +14,6 @@ use Rattle.sections.proofs.at_once.starts_anew.Tie as tie
 returns : tie.Need-returns
 returns c = rw (eq-eqb _ _ (c .if1 .taken)) refl
 
-both-at-requires : tie.Need-both-at-requires
-both-at-requires c κs = search needs
-
-sub-before : tie.Need-sub-before
-sub-before c = search needs
-
 both-at-requires-2 : tie.Need-both-at-requires-2
 both-at-requires-2 c κs = ⊎-elim (λ w. omega arith) (λ w. omega arith) (c .if2 .came)
 
@@ -42,4 +36,4 @@ returns-2 c =
 
 pub starts-anew-spec : {M : Type 1} → statement M
 starts-anew-spec =
-    tie.close (tie.spec returns both-at-requires sub-before both-at-requires-2 returns-2)
+    tie.close (tie.spec returns (λ c κs. search needs) (λ c. search needs) both-at-requires-2 returns-2)

@@ -5,21 +5,6 @@ use Rattle.trade.specs.Facts.{flowIn}
 use Rattle.sections.proofs.records.flow_of.Statement.{statement}
 use Rattle.sections.proofs.records.flow_of.Tie as tie
 
-word-at-requires : tie.Need-word-at-requires
-word-at-requires c κs = search needs
-
-word-at-requires-2 : tie.Need-word-at-requires-2
-word-at-requires-2 c κs = search needs
-
-word-at-requires-3 : tie.Need-word-at-requires-3
-word-at-requires-3 c κs = search needs
-
-word-at-requires-4 : tie.Need-word-at-requires-4
-word-at-requires-4 c κs = search needs
-
-word-at-requires-5 : tie.Need-word-at-requires-5
-word-at-requires-5 c κs = search needs
-
 returns : tie.Need-returns
 unfolding flowIn field
 returns c =
@@ -34,11 +19,5 @@ returns c =
 
 pub flow-of-spec : {M : Type 1} → statement M
 flow-of-spec =
-    tie.close
-    (tie.spec
-    word-at-requires
-    word-at-requires-2
-    word-at-requires-3
-    word-at-requires-4
-    word-at-requires-5
-    returns)
+    tie.close (tie.spec (λ c κs. search needs) (λ c κs. search needs) (λ c κs. search needs) (λ c κs. search needs)
+    (λ c κs. search needs) returns)

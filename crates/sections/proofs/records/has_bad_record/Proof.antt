@@ -30,15 +30,6 @@ abbrev μ-loop : tie.MeasureT-loop
 loop-holds : tie.Need-loop-holds Inv-loop μ-loop
 loop-holds c = (omega arith, λ e k h. absurd (omega arith), λ k h. absurd (omega arith), refl)
 
-id-at-requires : tie.Need-id-at-requires Inv-loop μ-loop
-id-at-requires c κs = omega arith
-
-cast-low : tie.Need-cast-low Inv-loop μ-loop
-cast-low c = omega arith
-
-array-read-is-bad-record : tie.Need-array-read-is-bad-record Inv-loop μ-loop
-array-read-is-bad-record c = omega arith
-
 is-bad-record-requires : tie.Need-is-bad-record-requires Inv-loop μ-loop
 is-bad-record-requires c κs =
     let loop = c .before .before .loop in
@@ -46,15 +37,6 @@ is-bad-record-requires c κs =
       omega arith,
       λ e. unmet (loop .met) records (loop .i) (loop .inv .2) (rw (c .id-at .ensures) at e),
     )
-
-array-write-met : tie.Need-array-write-met Inv-loop μ-loop
-array-write-met c = omega arith
-
-add-i : tie.Need-add-i Inv-loop μ-loop
-add-i c = omega arith
-
-loop-less : tie.Need-loop-less Inv-loop μ-loop
-loop-less c = omega arith
 
 loop-again : tie.Need-loop-again Inv-loop μ-loop
 loop-again c =
@@ -78,17 +60,5 @@ returns c =
 
 pub has-bad-record-spec : {M : Type 1} → statement M
 has-bad-record-spec =
-    tie.close
-    (tie.spec
-    Inv-loop
-    μ-loop
-    loop-holds
-    id-at-requires
-    cast-low
-    array-read-is-bad-record
-    is-bad-record-requires
-    array-write-met
-    add-i
-    loop-less
-    loop-again
-    returns)
+    tie.close (tie.spec Inv-loop μ-loop loop-holds (λ c κs. omega arith) (λ c. omega arith) (λ c. omega arith)
+    is-bad-record-requires (λ c. omega arith) (λ c. omega arith) (λ c. omega arith) loop-again returns)

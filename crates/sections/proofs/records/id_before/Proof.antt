@@ -19,14 +19,8 @@ Inv-loop records i id j₀ j = (j ≤ i) × ((k : ℕ) → k < j → eqb (field 
 abbrev μ-loop : tie.MeasureT-loop
 μ-loop records i id j₀ j = i - j
 
-id-at-requires : tie.Need-id-at-requires Inv-loop μ-loop
-id-at-requires c κs = search needs
-
 loop-holds : tie.Need-loop-holds Inv-loop μ-loop
 loop-holds c = (omega arith, λ k h. absurd (omega arith))
-
-id-at-requires-2 : tie.Need-id-at-requires-2 Inv-loop μ-loop
-id-at-requires-2 c κs = omega arith
 
 returns : tie.Need-returns Inv-loop μ-loop
 returns c =
@@ -35,12 +29,6 @@ returns c =
     sym
     (some-intro (λ (k : ℕ). eqb (field (now (a .records)) k 0) (field (now (a .records)) (a .i) 0)) (a .i) j (omega arith)
     (eq-eqb _ _ (sym (c .before .id-at2 .ensures) ∙ c .if1 .taken ∙ c .before .before .before .before .id-at .ensures)))
-
-add-j : tie.Need-add-j Inv-loop μ-loop
-add-j c = omega arith
-
-loop-less : tie.Need-loop-less Inv-loop μ-loop
-loop-less c = omega arith
 
 loop-again : tie.Need-loop-again Inv-loop μ-loop
 loop-again c = (
@@ -60,15 +48,5 @@ returns-2 c =
 
 pub id-before-spec : {M : Type 1} → statement M
 id-before-spec =
-    tie.close
-    (tie.spec
-    Inv-loop
-    μ-loop
-    id-at-requires
-    loop-holds
-    id-at-requires-2
-    returns
-    add-j
-    loop-less
-    loop-again
-    returns-2)
+    tie.close (tie.spec Inv-loop μ-loop (λ c κs. search needs) loop-holds (λ c κs. omega arith) returns (λ c. omega arith)
+    (λ c. omega arith) loop-again returns-2)

@@ -5,15 +5,6 @@ use borrow.Author.Needs.{needs}
 use Rattle.sections.proofs.records.is_bad_record.Statement.{statement}
 use Rattle.sections.proofs.records.is_bad_record.Tie as tie
 
-is-repeat-requires : tie.Need-is-repeat-requires
-is-repeat-requires c κs = search needs
-
-record-at-requires : tie.Need-record-at-requires
-record-at-requires c κs = search needs
-
-is-misfit-requires : tie.Need-is-misfit-requires
-is-misfit-requires c κs = search needs
-
 returns : tie.Need-returns
 returns c =
     let a = c .before .before .before .before .args in
@@ -22,4 +13,4 @@ returns c =
 
 pub is-bad-record-spec : {M : Type 1} → statement M
 is-bad-record-spec =
-    tie.close (tie.spec is-repeat-requires record-at-requires is-misfit-requires returns)
+    tie.close (tie.spec (λ c κs. search needs) (λ c κs. search needs) (λ c κs. search needs) returns)

@@ -4,24 +4,6 @@ use Rattle.sections.specs.Records.{misfit}
 use Rattle.sections.proofs.records.is_misfit.Statement.{statement}
 use Rattle.sections.proofs.records.is_misfit.Tie as tie
 
-is-outside-requires : tie.Need-is-outside-requires
-is-outside-requires c κs = search needs
-
-is-outside-requires-2 : tie.Need-is-outside-requires-2
-is-outside-requires-2 c κs = search needs
-
-is-outside-requires-3 : tie.Need-is-outside-requires-3
-is-outside-requires-3 c κs = search needs
-
-is-outside-requires-4 : tie.Need-is-outside-requires-4
-is-outside-requires-4 c κs = search needs
-
-cast-is-outside : tie.Need-cast-is-outside
-cast-is-outside c = search needs
-
-is-outside-requires-5 : tie.Need-is-outside-requires-5
-is-outside-requires-5 c κs = search needs
-
 returns : tie.Need-returns
 unfolding misfit
 returns c =
@@ -35,12 +17,5 @@ returns c =
 
 pub is-misfit-spec : {M : Type 1} → statement M
 is-misfit-spec =
-    tie.close
-    (tie.spec
-    is-outside-requires
-    is-outside-requires-2
-    is-outside-requires-3
-    is-outside-requires-4
-    cast-is-outside
-    is-outside-requires-5
-    returns)
+    tie.close (tie.spec (λ c κs. search needs) (λ c κs. search needs) (λ c κs. search needs) (λ c κs. search needs)
+    (λ c. search needs) (λ c κs. search needs) returns)

@@ -11,21 +11,6 @@ use Rattle.sections.proofs.RecordsLaws.{flow-part}
 use Rattle.sections.proofs.records.record_at.Statement.{statement}
 use Rattle.sections.proofs.records.record_at.Tie as tie
 
-mul-at : tie.Need-mul-at
-mul-at c = search needs
-
-sub-flow-of : tie.Need-sub-flow-of
-sub-flow-of c = search needs
-
-part-flow-of-start : tie.Need-part-flow-of-start
-part-flow-of-start c = search needs
-
-part-flow-of-end : tie.Need-part-flow-of-end
-part-flow-of-end c = search needs
-
-flow-of-requires : tie.Need-flow-of-requires
-flow-of-requires c κs = search needs
-
 returns : tie.Need-returns
 returns c =
     let records = now (c .before .before .before .args .records) in
@@ -34,5 +19,5 @@ returns c =
 
 pub record-at-spec : {M : Type 1} → statement M
 record-at-spec =
-    tie.close
-    (tie.spec mul-at sub-flow-of part-flow-of-start part-flow-of-end flow-of-requires returns)
+    tie.close (tie.spec (λ c. search needs) (λ c. search needs) (λ c. search needs) (λ c. search needs) (λ c κs. search needs)
+    returns)

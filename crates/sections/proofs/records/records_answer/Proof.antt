@@ -5,22 +5,9 @@ use borrow.Author.Needs.{needs}
 use Rattle.sections.proofs.records.records_answer.Statement.{statement}
 use Rattle.sections.proofs.records.records_answer.Tie as tie
 
-has-bad-record-requires : tie.Need-has-bad-record-requires
-has-bad-record-requires c κs = search needs
-
-searched-records-requires : tie.Need-searched-records-requires
-searched-records-requires c κs = search needs
-
-returns : tie.Need-returns
-returns c = search needs
-
-done-requires : tie.Need-done-requires
-done-requires c κs = search needs
-
 returns-2 : tie.Need-returns-2
 returns-2 c = c .done .ensures ∙ sym (c .before .before .has-bad-record .ensures (c .before .if1 .left))
 
 pub records-answer-spec : {M : Type 1} → statement M
 records-answer-spec =
-    tie.close
-    (tie.spec has-bad-record-requires searched-records-requires returns done-requires returns-2)
+    tie.close (tie.spec (λ c κs. search needs) (λ c κs. search needs) (λ c. search needs) (λ c κs. search needs) returns-2)

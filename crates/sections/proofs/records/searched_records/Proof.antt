@@ -39,12 +39,6 @@ returns c =
     (c .before .before .before .before .loop .inv .1)
     (sym (c .before .before .is-bad-record .ensures) ∙ c .before .if1 .taken))
 
-add-i : tie.Need-add-i Inv-loop μ-loop
-add-i c = omega arith
-
-loop-less : tie.Need-loop-less Inv-loop μ-loop
-loop-less c = omega arith
-
 loop-again : tie.Need-loop-again Inv-loop μ-loop
 loop-again c = (
   omega arith,
@@ -65,16 +59,5 @@ returns-2 c =
 
 pub searched-records-spec : {M : Type 1} → statement M
 searched-records-spec =
-    tie.close
-    (tie.spec
-    Inv-loop
-    μ-loop
-    loop-holds
-    is-bad-record-requires
-    refused-requires
-    returns
-    add-i
-    loop-less
-    loop-again
-    done-requires
-    returns-2)
+    tie.close (tie.spec Inv-loop μ-loop loop-holds is-bad-record-requires refused-requires returns (λ c. omega arith)
+    (λ c. omega arith) loop-again done-requires returns-2)

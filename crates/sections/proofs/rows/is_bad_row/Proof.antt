@@ -7,18 +7,6 @@ use borrow.Author.Needs.{needs}
 use Rattle.sections.proofs.rows.is_bad_row.Statement.{statement}
 use Rattle.sections.proofs.rows.is_bad_row.Tie as tie
 
-cast-t5 : tie.Need-cast-t5
-cast-t5 c = search needs
-
-row-mask-requires : tie.Need-row-mask-requires
-row-mask-requires c κs = search needs
-
-shr-result : tie.Need-shr-result
-shr-result c = search needs
-
-has-above-requires : tie.Need-has-above-requires
-has-above-requires c κs = search needs
-
 returns : tie.Need-returns
 unfolding bit
 returns c =
@@ -29,4 +17,4 @@ returns c =
 
 pub is-bad-row-spec : {M : Type 1} → statement M
 is-bad-row-spec =
-    tie.close (tie.spec cast-t5 row-mask-requires shr-result has-above-requires returns)
+    tie.close (tie.spec (λ c. search needs) (λ c κs. search needs) (λ c. search needs) (λ c κs. search needs) returns)

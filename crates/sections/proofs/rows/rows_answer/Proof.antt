@@ -21,9 +21,6 @@ abbrev μ-loop : tie.MeasureT-loop
 loop-holds : tie.Need-loop-holds Inv-loop μ-loop
 loop-holds c = (omega arith, λ k h. absurd (omega arith))
 
-is-bad-row-requires : tie.Need-is-bad-row-requires Inv-loop μ-loop
-is-bad-row-requires c κs = omega arith
-
 refused-requires : tie.Need-refused-requires Inv-loop μ-loop
 refused-requires c κs = tt
 
@@ -36,12 +33,6 @@ returns c =
     ∙ sym
     (givenFirst-at 5 (badRow (factsIn (a .nodes) 0 (now (a .rows)) [] [])) (a .nodes) (loop .x) (omega arith) (loop .inv .1)
     (sym (c .before .before .is-bad-row .ensures) ∙ c .before .if1 .taken))
-
-add-x : tie.Need-add-x Inv-loop μ-loop
-add-x c = omega arith
-
-loop-less : tie.Need-loop-less Inv-loop μ-loop
-loop-less c = omega arith
 
 loop-again : tie.Need-loop-again Inv-loop μ-loop
 loop-again c =
@@ -61,16 +52,5 @@ returns-2 c =
 
 pub rows-answer-spec : {M : Type 1} → statement M
 rows-answer-spec =
-    tie.close
-    (tie.spec
-    Inv-loop
-    μ-loop
-    loop-holds
-    is-bad-row-requires
-    refused-requires
-    returns
-    add-x
-    loop-less
-    loop-again
-    done-requires
-    returns-2)
+    tie.close (tie.spec Inv-loop μ-loop loop-holds (λ c κs. omega arith) refused-requires returns (λ c. omega arith)
+    (λ c. omega arith) loop-again done-requires returns-2)

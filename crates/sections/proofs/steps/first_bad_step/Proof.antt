@@ -19,9 +19,6 @@ abbrev μ-loop : tie.MeasureT-loop
 loop-holds : tie.Need-loop-holds Inv-loop μ-loop
 loop-holds c = (omega arith, λ k h. absurd (omega arith))
 
-is-bad-step-requires : tie.Need-is-bad-step-requires Inv-loop μ-loop
-is-bad-step-requires c κs = omega arith
-
 returns : tie.Need-returns Inv-loop μ-loop
 returns c =
     let a = c .before .before .before .before .before .args in
@@ -29,12 +26,6 @@ returns c =
     sym
     (first-unique (badInPlan (a .nodes) (now (a .plan))) (a .len) j (omega arith) (c .before .before .before .loop .inv .1)
     (λ h. sym (c .before .is-bad-step .ensures) ∙ c .if1 .taken))
-
-add-j : tie.Need-add-j Inv-loop μ-loop
-add-j c = omega arith
-
-loop-less : tie.Need-loop-less Inv-loop μ-loop
-loop-less c = omega arith
 
 loop-again : tie.Need-loop-again Inv-loop μ-loop
 loop-again c = (
@@ -51,14 +42,5 @@ returns-2 c =
 
 pub first-bad-step-spec : {M : Type 1} → statement M
 first-bad-step-spec =
-    tie.close
-    (tie.spec
-    Inv-loop
-    μ-loop
-    loop-holds
-    is-bad-step-requires
-    returns
-    add-j
-    loop-less
-    loop-again
+    tie.close (tie.spec Inv-loop μ-loop loop-holds (λ c κs. omega arith) returns (λ c. omega arith) (λ c. omega arith) loop-again
     returns-2)

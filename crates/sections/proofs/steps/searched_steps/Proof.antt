@@ -59,9 +59,6 @@ loop-holds : tie.Need-loop-holds Inv-loop μ-loop
 unfolding sumTo
 loop-holds c = (omega arith, refl, λ k h. absurd (omega arith))
 
-len-at-requires : tie.Need-len-at-requires Inv-loop μ-loop
-len-at-requires c κs = search needs
-
 mul-at : tie.Need-mul-at Inv-loop μ-loop
 mul-at c = omega (arith, room c)
 
@@ -83,9 +80,6 @@ first-bad-step-requires c κs =
 add-refused : tie.Need-add-refused Inv-loop μ-loop
 add-refused c = omega (arith, room (c .before .before .before))
 
-refused-requires : tie.Need-refused-requires Inv-loop μ-loop
-refused-requires c κs = search needs
-
 returns : tie.Need-returns Inv-loop μ-loop
 unfolding firstStep factsOf
 returns c =
@@ -103,12 +97,6 @@ returns c =
 add-start : tie.Need-add-start Inv-loop μ-loop
 add-start c = omega (arith, room (c .before .before .before))
 
-add-i : tie.Need-add-i Inv-loop μ-loop
-add-i c = search needs
-
-loop-less : tie.Need-loop-less Inv-loop μ-loop
-loop-less c = search needs
-
 loop-again : tie.Need-loop-again Inv-loop μ-loop
 unfolding firstStep factsOf
 loop-again c =
@@ -122,9 +110,6 @@ loop-again c =
           none-found (a .nodes) (a .flows) [] (now (a .records)) (now (a .steps)) (loop .i) (omega arith)
           (λ j b. loop .inv .2 j (rw (loop .inv .1) b)) (rw (← bad, ← len) (c .if1 .left)) k (rw (← loop .inv .1, ← len) h),
     )
-
-done-requires : tie.Need-done-requires Inv-loop μ-loop
-done-requires c κs = search needs
 
 returns-2 : tie.Need-returns-2 Inv-loop μ-loop
 unfolding code8 allSteps firstStep factsOf
@@ -140,23 +125,6 @@ returns-2 c =
 
 pub searched-steps-spec : {M : Type 1} → statement M
 searched-steps-spec =
-    tie.close
-    (tie.spec
-    Inv-loop
-    μ-loop
-    loop-holds
-    len-at-requires
-    mul-at
-    sub-first-bad-step
-    part-first-bad-step-start
-    part-first-bad-step-end
-    first-bad-step-requires
-    add-refused
-    refused-requires
-    returns
-    add-start
-    add-i
-    loop-less
-    loop-again
-    done-requires
-    returns-2)
+    tie.close (tie.spec Inv-loop μ-loop loop-holds (λ c κs. search needs) mul-at sub-first-bad-step part-first-bad-step-start
+    part-first-bad-step-end first-bad-step-requires add-refused (λ c κs. search needs) returns add-start (λ c. search needs)
+    (λ c. search needs) loop-again (λ c κs. search needs) returns-2)

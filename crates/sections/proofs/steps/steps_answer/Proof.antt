@@ -4,22 +4,9 @@ use borrow.Author.Needs.{needs}
 use Rattle.sections.proofs.steps.steps_answer.Statement.{statement}
 use Rattle.sections.proofs.steps.steps_answer.Tie as tie
 
-counts-agree-requires : tie.Need-counts-agree-requires
-counts-agree-requires c κs = search needs
-
-done-requires : tie.Need-done-requires
-done-requires c κs = search needs
-
 returns : tie.Need-returns
 returns c = c .done .ensures ∙ sym (c .before .before .counts-agree .ensures (c .before .if1 .taken))
 
-searched-steps-requires : tie.Need-searched-steps-requires
-searched-steps-requires c κs = search needs
-
-returns-2 : tie.Need-returns-2
-returns-2 c = search needs
-
 pub steps-answer-spec : {M : Type 1} → statement M
 steps-answer-spec =
-    tie.close
-    (tie.spec counts-agree-requires done-requires returns searched-steps-requires returns-2)
+    tie.close (tie.spec (λ c κs. search needs) (λ c κs. search needs) returns (λ c κs. search needs) (λ c. search needs))

@@ -17,11 +17,6 @@ use Rattle.slot.specs.States.{placeOf, stateOf}
 use Rattle.slot.proofs.ChoiceLaws.{Chosen, chosen-none, chosen-all, turn-asks, chosen-waits, chosen-goes}
 use Rattle.slot.proofs.choice.chosen.Statement.{statement}
 use Rattle.slot.proofs.choice.chosen.Tie as tie
-use Rattle.slot.proofs.choice.chosen.Reads as reads
-use Rattle.slot.proofs.choice.chosen.Lts as lts
-use Rattle.nodes.proofs.grants.GrantSet.empty.Reads as empty-reads
-use Rattle.sections.proofs.records.len_at.Reads as len-at-reads
-use Rattle.slot.proofs.choice.take_turn.Reads as take-turn-reads
 
 abbrev Inv-loop : tie.InvT-loop
 Inv-loop flows rows records steps progress set₀ places₀ sent₀ start₀ i₀ set places sent start i =
@@ -32,18 +27,9 @@ Inv-loop flows rows records steps progress set₀ places₀ sent₀ start₀ i�
 abbrev μ-loop : tie.MeasureT-loop
 μ-loop flows rows records steps progress set₀ places₀ sent₀ start₀ i₀ set places sent start i = flows - i
 
-empty-requires : tie.Need-empty-requires Inv-loop μ-loop
-empty-requires c κs = search needs
-
 loop-holds : tie.Need-loop-holds Inv-loop μ-loop
 unfolding firstStep sumTo
 loop-holds c = (omega arith, refl, chosen-none _ _ _ _ _ (c .empty .result) (c .empty .ensures))
-
-len-at-requires : tie.Need-len-at-requires Inv-loop μ-loop
-len-at-requires c κs = search needs
-
-array-copy-out-p : tie.Need-array-copy-out-p Inv-loop μ-loop
-array-copy-out-p c = search needs
 
 take-turn-requires : tie.Need-take-turn-requires Inv-loop μ-loop
 unfolding placeOf
@@ -85,9 +71,6 @@ add-start c =
 add-i : tie.Need-add-i Inv-loop μ-loop
 add-i c = omega (arith, c .before .before .before .before .before .before .loop-test .taken, c .before .before .before .before .before .before .before .before .before .before .before .before .before .pre .0 .most)
 
-loop-less : tie.Need-loop-less Inv-loop μ-loop
-loop-less c = search needs
-
 loop-again : tie.Need-loop-again Inv-loop μ-loop
 unfolding firstStep factsOf placeOf
 loop-again c =
@@ -121,21 +104,5 @@ returns c =
 
 pub chosen-spec : {M : Type 1} → statement M
 chosen-spec =
-    tie.close
-    (tie.spec
-    Inv-loop
-    μ-loop
-    empty-requires
-    loop-holds
-    len-at-requires
-    array-copy-out-p
-    take-turn-requires
-    cast-places
-    shl-places
-    mul-sent
-    array-set-from-sent
-    add-start
-    add-i
-    loop-less
-    loop-again
-    returns)
+    tie.close (tie.spec Inv-loop μ-loop (λ c κs. search needs) loop-holds (λ c κs. search needs) (λ c. search needs)
+    take-turn-requires cast-places shl-places mul-sent array-set-from-sent add-start add-i (λ c. search needs) loop-again returns)

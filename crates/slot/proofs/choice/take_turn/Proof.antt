@@ -7,33 +7,15 @@ use Rattle.slot.proofs.TurnLaws.{turned-finished, turned-clashes, turne
 use borrow.Author.Needs.{needs}
 use Rattle.slot.proofs.choice.take_turn.Statement.{statement}
 use Rattle.slot.proofs.choice.take_turn.Tie as tie
-use Rattle.slot.proofs.choice.take_turn.Reads as reads
-use Rattle.slot.proofs.choice.take_turn.Lts as lts
-use Rattle.nodes.proofs.grants.GrantSet.clashes.Reads as clashes-reads
-use Rattle.nodes.proofs.grants.GrantSet.with.Reads as with-reads
-use Rattle.plans.proofs.view.plan_step.Reads as plan-step-reads
-use Rattle.slot.proofs.choice.waits.Reads as waits-reads
-
-cast-done : tie.Need-cast-done
-cast-done c = search needs
-
-waits-requires : tie.Need-waits-requires
-waits-requires c κs = search needs
 
 returns : tie.Need-returns
 returns c =
     let a = c .before .before .before .before .before .before .args in
     rw (c .waits .ensures) (turned-finished (now (a .rows)) (now (a .steps)) (a .turn) (a .set) (c .before .if1 .taken))
 
-plan-step-requires : tie.Need-plan-step-requires
-plan-step-requires c κs = search needs
-
 clashes-requires : tie.Need-clashes-requires
 unfolding nextOf
 clashes-requires c κs = rw (c .plan-step .ensures) (c .before .before .before .before .before .before .pre (c .before .if1 .left))
-
-waits-requires-2 : tie.Need-waits-requires-2
-waits-requires-2 c κs = search needs
 
 returns-2 : tie.Need-returns-2
 unfolding nextOf
@@ -58,14 +40,5 @@ returns-3 c =
 
 pub take-turn-spec : {M : Type 1} → statement M
 take-turn-spec =
-    tie.close
-    (tie.spec
-    cast-done
-    waits-requires
-    returns
-    plan-step-requires
-    clashes-requires
-    waits-requires-2
-    returns-2
-    with-requires
-    returns-3)
+    tie.close (tie.spec (λ c. search needs) (λ c κs. search needs) returns (λ c κs. search needs) clashes-requires
+    (λ c κs. search needs) returns-2 with-requires returns-3)

@@ -23,11 +23,6 @@ use Rattle.slot.specs.Granting.{grantBy}
 use Rattle.slot.proofs.GrantingLaws.{Left, left-all, left-next, Given, given-none, flow-goes, flow-done, given-room, given-few, given-goes, given-length, given-all}
 use Rattle.slot.proofs.granting.grant_all.Statement.{statement}
 use Rattle.slot.proofs.granting.grant_all.Tie as tie
-use Rattle.slot.proofs.granting.grant_all.Reads as reads
-use Rattle.slot.proofs.granting.grant_all.Lts as lts
-use Rattle.sections.proofs.records.record_at.Reads as record-at-reads
-use Rattle.slot.proofs.granting.grant_of.Reads as grant-of-reads
-use Rattle.slot.proofs.writer.write_grant.Reads as write-grant-reads
 
 abbrev Inv-loop : tie.InvT-loop
 Inv-loop records grants₀ firsts slot places₀ sent rest₀ count₀ grants places rest count =
@@ -121,9 +116,6 @@ sub-write-grant c = omega (arith, room (c .before .before .before .before .befor
 part-write-grant-start : tie.Need-part-write-grant-start Inv-loop μ-loop
 part-write-grant-start c = omega (arith, room (c .before .before .before .before .before .before))
 
-part-write-grant-end : tie.Need-part-write-grant-end Inv-loop μ-loop
-part-write-grant-end c = search needs
-
 write-grant-requires : tie.Need-write-grant-requires Inv-loop μ-loop
 write-grant-requires c κs = simp (length-take, length-drop) (omega (arith, room (c .before .before .before .before .before .before .before)))
 
@@ -136,9 +128,6 @@ array-set-from-places c = omega (arith, lowest (c .before .before .before .befor
 
 add-count : tie.Need-add-count Inv-loop μ-loop
 add-count c = omega (arith, few (c .before .before .before .before .before .before .before .before .before .before .before))
-
-sub-rest : tie.Need-sub-rest Inv-loop μ-loop
-sub-rest c = omega arith
 
 loop-less : tie.Need-loop-less Inv-loop μ-loop
 loop-less c = let rest : ℕ = c .before .before .before .before .before .before .before .before .before .before .before .before .loop .rest in omega (arith, and-le-r rest (rest - 1))
@@ -164,9 +153,6 @@ loop-again c =
           (put .last .0) (put .ensures)),
     )
 
-add-t39 : tie.Need-add-t39 Inv-loop μ-loop
-add-t39 c = search needs
-
 same-length : tie.Need-same-length Inv-loop μ-loop
 same-length c =
     let start = c .before .before .before .before .before .before .before .before in
@@ -183,30 +169,7 @@ returns c =
 
 pub grant-all-spec : {M : Type 1} → statement M
 grant-all-spec =
-    tie.close
-    (tie.spec
-    Inv-loop
-    μ-loop
-    loop-holds
-    cast-i
-    array-copy-out-p
-    record-at-requires
-    mul-grant-of
-    array-copy-out-grant-of
-    mul-grant-of-2
-    array-copy-out-grant-of-2
-    grant-of-requires
-    mul-at
-    sub-write-grant
-    part-write-grant-start
-    part-write-grant-end
-    write-grant-requires
-    add-t35
-    array-set-from-places
-    add-count
-    sub-rest
-    loop-less
-    loop-again
-    add-t39
-    same-length
-    returns)
+    tie.close (tie.spec Inv-loop μ-loop loop-holds cast-i array-copy-out-p record-at-requires mul-grant-of array-copy-out-grant-of
+    mul-grant-of-2 array-copy-out-grant-of-2 grant-of-requires mul-at sub-write-grant part-write-grant-start (λ c. search needs)
+    write-grant-requires add-t35 array-set-from-places add-count (λ c. omega arith) loop-less loop-again (λ c. search needs)
+    same-length returns)

@@ -7,15 +7,6 @@ use borrow.Author.Needs.{needs}
 use Rattle.slot.proofs.writer.write_grant.Statement.{statement}
 use Rattle.slot.proofs.writer.write_grant.Tie as tie
 
-put-word-requires : tie.Need-put-word-requires
-put-word-requires c κs = search needs
-
-put-long-requires : tie.Need-put-long-requires
-put-long-requires c κs = search needs
-
-slice-write-part : tie.Need-slice-write-part
-slice-write-part c = search needs
-
 slice-write-part-2 : tie.Need-slice-write-part-2
 slice-write-part-2 c = simp length-set (omega arith)
 
@@ -33,12 +24,5 @@ returns c =
 
 pub write-grant-spec : {M : Type 1} → statement M
 write-grant-spec =
-    tie.close
-    (tie.spec
-    put-word-requires
-    put-long-requires
-    slice-write-part
-    slice-write-part-2
-    slice-write-part-3
-    same-length
-    returns)
+    tie.close (tie.spec (λ c κs. search needs) (λ c κs. search needs) (λ c. search needs) slice-write-part-2 slice-write-part-3
+    same-length returns)

@@ -22,12 +22,6 @@ opened c = open-frame (now (c .before .before .before .before .before .args .boo
 laid : (c : tie.Else1) → Lies (now (c .before .before .before .before .before .args .book)) (c .before .before .before .open-book .result .frame)
 laid c = rw (opened c .1) (done-lies (now (c .before .before .before .before .before .args .book)) (opened c .0))
 
-open-book-requires : tie.Need-open-book-requires
-open-book-requires c κs = search needs
-
-empty-requires : tie.Need-empty-requires
-empty-requires c κs = search needs
-
 returns : tie.Need-returns
 unfolding openedOf readOf
 returns c =
@@ -79,15 +73,5 @@ returns-2 c =
 
 pub read-spec : {M : Type 1} → statement M
 read-spec =
-    tie.close
-    (tie.spec
-    open-book-requires
-    empty-requires
-    returns
-    cast-table-of
-    cast-table-of-2
-    rows-of-requires
-    records-of-requires
-    steps-of-requires
-    table-of-requires
-    returns-2)
+    tie.close (tie.spec (λ c κs. search needs) (λ c κs. search needs) returns cast-table-of cast-table-of-2 rows-of-requires
+    records-of-requires steps-of-requires table-of-requires returns-2)

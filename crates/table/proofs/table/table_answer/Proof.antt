@@ -68,12 +68,6 @@ plans-fit c =
     let sum = plans-most (factsOf s) done in
     omega (arith, sum, few-flows (c .before .before .before .before .before .before), c .before .before .before .before .before .before .before .before .before .before .before .pre .steps)
 
-is-miscounted-requires : tie.Need-is-miscounted-requires
-is-miscounted-requires c κs = search needs
-
-refused-requires : tie.Need-refused-requires
-refused-requires c κs = search needs
-
 returns : tie.Need-returns
 unfolding tableRules code3 factsOf
 returns c =
@@ -119,14 +113,5 @@ returns-4 c =
 
 pub table-answer-spec : {M : Type 1} → statement M
 table-answer-spec =
-    tie.close
-    (tie.spec
-    is-miscounted-requires
-    refused-requires
-    returns
-    rows-answer-requires
-    returns-2
-    records-answer-requires
-    returns-3
-    steps-answer-requires
-    returns-4)
+    tie.close (tie.spec (λ c κs. search needs) (λ c κs. search needs) returns rows-answer-requires returns-2
+    records-answer-requires returns-3 steps-answer-requires returns-4)

@@ -13,42 +13,6 @@ use borrow.Author.Needs.{needs}
 use Rattle.table.proofs.written.fill.Statement.{statement}
 use Rattle.table.proofs.written.fill.Tie as tie
 
-mul-row-bytes : tie.Need-mul-row-bytes
-mul-row-bytes c = search needs
-
-mul-record-bytes : tie.Need-mul-record-bytes
-mul-record-bytes c = search needs
-
-mul-step-bytes : tie.Need-mul-step-bytes
-mul-step-bytes c = search needs
-
-add-steps-distance : tie.Need-add-steps-distance
-add-steps-distance c = search needs
-
-add-records-distance : tie.Need-add-records-distance
-add-records-distance c = search needs
-
-add-rows-distance : tie.Need-add-rows-distance
-add-rows-distance c = search needs
-
-cast-trailer-bytes : tie.Need-cast-trailer-bytes
-cast-trailer-bytes c = search needs
-
-cast-trailer-bytes-2 : tie.Need-cast-trailer-bytes-2
-cast-trailer-bytes-2 c = search needs
-
-cast-trailer-bytes-3 : tie.Need-cast-trailer-bytes-3
-cast-trailer-bytes-3 c = search needs
-
-cast-trailer-bytes-4 : tie.Need-cast-trailer-bytes-4
-cast-trailer-bytes-4 c = search needs
-
-cast-trailer-bytes-5 : tie.Need-cast-trailer-bytes-5
-cast-trailer-bytes-5 c = search needs
-
-trailer-bytes-requires : tie.Need-trailer-bytes-requires
-trailer-bytes-requires c κs = search needs
-
 slice-aggregate-put-at : tie.Need-slice-aggregate-put-at
 slice-aggregate-put-at c = sym (length-take-le (8 * c .before .before .before .before .before .before .before .args .nodes) (now (c .before .before .before .before .before .before .before .args .rows)) (c .before .before .before .before .before .before .before .pre .rows))
 
@@ -65,9 +29,6 @@ put-at-requires-2 c κs =
     omega
     (arith, length-take-le (10 * c .before .before .before .before .before .before .before .before .before .before .before .before .args .flows) (now (c .before .before .before .before .before .before .before .before .before .before .before .before .args .records)) (c .before .before .before .before .before .before .before .before .before .before .before .before .pre .records), book-room (sections (c .before .before .before .before .before .before .before .before .before .before .before .before .args .nodes) (c .before .before .before .before .before .before .before .before .before .before .before .before .args .flows) (now (c .before .before .before .before .before .before .before .before .before .before .before .before .args .rows)) (now (c .before .before .before .before .before .before .before .before .before .before .before .before .args .records)) (now (c .before .before .before .before .before .before .before .before .before .before .before .before .args .steps))) (c .before .before .before .before .before .before .before .before .before .before .before .before .args .all) (length (now (c .before .before .before .before .before .before .before .before .before .before .before .before .args .buffer))) (c .before .before .before .before .before .before .before .before .before .before .before .before .pre), c .before .before .before .before .put-at .kept .0)
 
-add-put-at : tie.Need-add-put-at
-add-put-at c = search needs
-
 slice-aggregate-put-at-3 : tie.Need-slice-aggregate-put-at-3
 slice-aggregate-put-at-3 c = sym (length-take-le (2 * c .before .before .before .before .before .before .before .before .before .before .before .before .before .before .before .before .before .args .all) (now (c .before .before .before .before .before .before .before .before .before .before .before .before .before .before .before .before .before .args .steps)) (c .before .before .before .before .before .before .before .before .before .before .before .before .before .before .before .before .before .pre .steps))
 
@@ -76,22 +37,10 @@ put-at-requires-3 c κs =
     omega
     (arith, length-take-le (2 * c .before .before .before .before .before .before .before .before .before .before .before .before .before .before .before .before .before .args .all) (now (c .before .before .before .before .before .before .before .before .before .before .before .before .before .before .before .before .before .args .steps)) (c .before .before .before .before .before .before .before .before .before .before .before .before .before .before .before .before .before .pre .steps), book-room (sections (c .before .before .before .before .before .before .before .before .before .before .before .before .before .before .before .before .before .args .nodes) (c .before .before .before .before .before .before .before .before .before .before .before .before .before .before .before .before .before .args .flows) (now (c .before .before .before .before .before .before .before .before .before .before .before .before .before .before .before .before .before .args .rows)) (now (c .before .before .before .before .before .before .before .before .before .before .before .before .before .before .before .before .before .args .records)) (now (c .before .before .before .before .before .before .before .before .before .before .before .before .before .before .before .before .before .args .steps))) (c .before .before .before .before .before .before .before .before .before .before .before .before .before .before .before .before .before .args .all) (length (now (c .before .before .before .before .before .before .before .before .before .before .before .before .before .before .before .before .before .args .buffer))) (c .before .before .before .before .before .before .before .before .before .before .before .before .before .before .before .before .before .pre), c .before .before .before .before .put-at2 .kept .0, c .before .before .before .before .before .before .before .before .before .put-at .kept .0)
 
-add-put-at-2 : tie.Need-add-put-at-2
-add-put-at-2 c = search needs
-
-add-put-at-3 : tie.Need-add-put-at-3
-add-put-at-3 c = search needs
-
-slice-aggregate-put-at-4 : tie.Need-slice-aggregate-put-at-4
-slice-aggregate-put-at-4 c = search needs
-
 put-at-requires-4 : tie.Need-put-at-requires-4
 put-at-requires-4 c κs =
     omega
     (arith, book-room (sections (c .before .before .before .before .before .before .before .before .before .before .before .before .before .before .before .before .before .before .before .before .before .before .args .nodes) (c .before .before .before .before .before .before .before .before .before .before .before .before .before .before .before .before .before .before .before .before .before .before .args .flows) (now (c .before .before .before .before .before .before .before .before .before .before .before .before .before .before .before .before .before .before .before .before .before .before .args .rows)) (now (c .before .before .before .before .before .before .before .before .before .before .before .before .before .before .before .before .before .before .before .before .before .before .args .records)) (now (c .before .before .before .before .before .before .before .before .before .before .before .before .before .before .before .before .before .before .before .before .before .before .args .steps))) (c .before .before .before .before .before .before .before .before .before .before .before .before .before .before .before .before .before .before .before .before .before .before .args .all) (length (now (c .before .before .before .before .before .before .before .before .before .before .before .before .before .before .before .before .before .before .before .before .before .before .args .buffer))) (c .before .before .before .before .before .before .before .before .before .before .before .before .before .before .before .before .before .before .before .before .before .before .pre), ap length (c .before .before .before .before .before .before .before .before .before .before .before .before .before .before .before .before .before .trailer-bytes .ensures), c .before .before .before .before .put-at3 .kept .0, c .before .before .before .before .before .before .before .before .before .put-at2 .kept .0, c .before .before .before .before .before .before .before .before .before .before .before .before .before .before .put-at .kept .0)
-
-same-length : tie.Need-same-length
-same-length c = search needs
 
 returns : tie.Need-returns
 returns c =
@@ -103,30 +52,8 @@ returns c =
 
 pub fill-spec : {M : Type 1} → statement M
 fill-spec =
-    tie.close
-    (tie.spec
-    mul-row-bytes
-    mul-record-bytes
-    mul-step-bytes
-    add-steps-distance
-    add-records-distance
-    add-rows-distance
-    cast-trailer-bytes
-    cast-trailer-bytes-2
-    cast-trailer-bytes-3
-    cast-trailer-bytes-4
-    cast-trailer-bytes-5
-    trailer-bytes-requires
-    slice-aggregate-put-at
-    put-at-requires
-    slice-aggregate-put-at-2
-    put-at-requires-2
-    add-put-at
-    slice-aggregate-put-at-3
-    put-at-requires-3
-    add-put-at-2
-    add-put-at-3
-    slice-aggregate-put-at-4
-    put-at-requires-4
-    same-length
-    returns)
+    tie.close (tie.spec (λ c. search needs) (λ c. search needs) (λ c. search needs) (λ c. search needs) (λ c. search needs)
+    (λ c. search needs) (λ c. search needs) (λ c. search needs) (λ c. search needs) (λ c. search needs) (λ c. search needs)
+    (λ c κs. search needs) slice-aggregate-put-at put-at-requires slice-aggregate-put-at-2 put-at-requires-2 (λ c. search needs)
+    slice-aggregate-put-at-3 put-at-requires-3 (λ c. search needs) (λ c. search needs) (λ c. search needs) put-at-requires-4
+    (λ c. search needs) returns)

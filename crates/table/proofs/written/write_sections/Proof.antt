@@ -61,9 +61,6 @@ long c =
     let n = 8 * c .before .before .before .before .before .before .before .before .args .nodes + 10 * c .before .before .before .before .before .before .before .before .args .flows + 2 * c .steps-before .result + 10 in
     book-length (sections (c .before .before .before .before .before .before .before .before .args .nodes) (c .before .before .before .before .before .before .before .before .args .flows) (now (c .before .before .before .before .before .before .before .before .args .rows)) (now (c .before .before .before .before .before .before .before .before .args .records)) (now (c .before .before .before .before .before .before .before .before .args .steps))) (c .steps-before .result) n (roomy c n (omega arith))
 
-table-answer-requires : tie.Need-table-answer-requires
-table-answer-requires c κs = search needs
-
 returns : tie.Need-returns
 returns c =
     let e = c .before .before .table-answer .ensures in
@@ -90,9 +87,6 @@ add-len-2 c = omega (arith, size c)
 add-len-3 : tie.Need-add-len-3
 add-len-3 c = omega (arith, size c)
 
-refused-requires : tie.Need-refused-requires
-refused-requires c κs = search needs
-
 returns-2 : tie.Need-returns-2
 returns-2 c =
     let d = c .before .before in
@@ -101,12 +95,6 @@ returns-2 c =
 
 fill-requires : tie.Need-fill-requires
 fill-requires c κs = roomy (c .before .before) _ (omega arith)
-
-done-requires : tie.Need-done-requires
-done-requires c κs = search needs
-
-same-length : tie.Need-same-length
-same-length c = search needs
 
 returns-3 : tie.Need-returns-3
 returns-3 c =
@@ -119,20 +107,5 @@ returns-3 c =
 
 pub write-sections-spec : {M : Type 1} → statement M
 write-sections-spec =
-    tie.close
-    (tie.spec
-    table-answer-requires
-    returns
-    steps-before-requires
-    mul-len
-    mul-len-2
-    add-len
-    mul-len-3
-    add-len-2
-    add-len-3
-    refused-requires
-    returns-2
-    fill-requires
-    done-requires
-    same-length
-    returns-3)
+    tie.close (tie.spec (λ c κs. search needs) returns steps-before-requires mul-len mul-len-2 add-len mul-len-3 add-len-2
+    add-len-3 (λ c κs. search needs) returns-2 fill-requires (λ c κs. search needs) (λ c. search needs) returns-3)

@@ -24,11 +24,4 @@ returns c = search needs
 
 pub lay-spec : {M : Type 1} → statement M
 lay-spec =
-    tie.close
-    (tie.spec
-    slice-aggregate-put-at
-    sub-put-at
-    slice-aggregate-put-at-2
-    put-at-requires
-    keep-requires
-    returns)
+    tie.close (tie.spec slice-aggregate-put-at sub-put-at slice-aggregate-put-at-2 put-at-requires keep-requires returns)

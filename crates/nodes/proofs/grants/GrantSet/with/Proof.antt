@@ -6,18 +6,6 @@ use borrow.Author.Needs.{needs}
 use Rattle.nodes.proofs.grants.GrantSet.with.Statement.{statement}
 use Rattle.nodes.proofs.grants.GrantSet.with.Tie as tie
 
-only-requires : tie.Need-only-requires
-only-requires c κs = search needs
-
-only-requires-2 : tie.Need-only-requires-2
-only-requires-2 c κs = search needs
-
-row-mask-requires : tie.Need-row-mask-requires
-row-mask-requires c κs = search needs
-
-only-requires-3 : tie.Need-only-requires-3
-only-requires-3 c κs = search needs
-
 returns : tie.Need-returns
 unfolding oneMore
 returns c =
@@ -37,4 +25,4 @@ returns c =
 
 pub with-spec : {M : Type 1} → statement M
 with-spec =
-    tie.close (tie.spec only-requires only-requires-2 row-mask-requires only-requires-3 returns)
+    tie.close (tie.spec (λ c κs. search needs) (λ c κs. search needs) (λ c κs. search needs) (λ c κs. search needs) returns)

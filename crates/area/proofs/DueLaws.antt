@@ -22,7 +22,7 @@ use Rattle.trade.specs.declared.state.Progress.{Progress}
 use Rattle.trade.specs.declared.state.Run.{Run}
 use Rattle.trade.proofs.First.{or-false}
 use Rattle.slot.proofs.Places.{stored, unstored, slots-none, slot-stored, slot-unstored}
-use Rattle.slot.specs.States.{placeOf, stateOf, slotOf}
+use Rattle.slot.specs.States.{placeOf, stateOf, slotIn}
 use Rattle.slot.specs.Release.{releasedAt}
 use Rattle.area.specs.Refusals.{badAt, runAnswer}
 use Rattle.area.specs.Dues.{dueBy, FirstReleases, AfterReleases}
@@ -47,8 +47,8 @@ module _ (flows : ℕ) (records : List ℕ) (run : Run) where
   pub record Seen (before : Bool) (i : ℕ) (places : List Progress) (firsts : List Slot) (doubt : Bool) : Type 0 where
     pub size : length places ≡ length (run .flows)
     pub room : length firsts ≡ mostFlows
-    pub phases : (k : ℕ) → k < i → slotOf firsts k ≡ field records k 1
-    pub others : (k : ℕ) → i ≤ k → slotOf firsts k ≡ 0
+    pub phases : (k : ℕ) → k < i → slotIn firsts k ≡ field records k 1
+    pub others : (k : ℕ) → i ≤ k → slotIn firsts k ≡ 0
     pub passed : (k : ℕ) → k < i → placeOf places k ≡ doneNow due state k
     pub ahead : (k : ℕ) → i ≤ k → placeOf places k ≡ placeOf (run .flows) k
     pub clear : doubt ≡ false → (before ≡ false) × ((k : ℕ) → k < i → Clear k)
@@ -93,13 +93,13 @@ module _ (flows : ℕ) (records : List ℕ) (run : Run) where
       good-now e = rw (lt-ltb i flows taken, ← so .ahead i (omega arith)) (rw own at e)
 
       -- its first release is kept
-      firsts-next : (k : ℕ) → k < i + 1 → slotOf (set firsts i first) k ≡ field records k 1
+      firsts-next : (k : ℕ) → k < i + 1 → slotIn (set firsts i first) k ≡ field records k 1
       unfolding flowIn
       firsts-next =
           below-more _ _ (λ k h. slot-unstored firsts i k first (λ e. omega arith) ∙ so .phases k h)
           (slot-stored firsts i first (omega (arith, so .room)) ∙ ap (λ (w : Flow). w .phase) own)
 
-      others-next : (k : ℕ) → i + 1 ≤ k → slotOf (set firsts i first) k ≡ 0
+      others-next : (k : ℕ) → i + 1 ≤ k → slotIn (set firsts i first) k ≡ 0
       others-next k h = slot-unstored firsts i k first (λ e. omega arith) ∙ so .others k (omega arith)
 
       room-next : length (set firsts i first) ≡ mostFlows

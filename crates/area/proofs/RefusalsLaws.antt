@@ -20,7 +20,7 @@ use Rattle.trade.specs.declared.clock.Slot.{Slot}
 use Rattle.trade.specs.declared.state.Run.{Run}
 use Rattle.trade.proofs.First.{bool-cases, lt-or-ge}
 use Rattle.trade.proofs.Answers.{given-passed, givenFirst-at, givenFirst-none, givenFirst-passed, givenFirst-same}
-use Rattle.slot.specs.States.{placeOf, stateOf, slotOf}
+use Rattle.slot.specs.States.{placeOf, stateOf, slotIn}
 use Rattle.slot.specs.Release.{releasedAt}
 use Rattle.area.specs.Refusals.{badPlaceAt, overrunAt, runAnswer}
 use Rattle.area.specs.Dues.{dueBy}
@@ -55,12 +55,12 @@ module _ (flows : ℕ) (records : List ℕ) (firsts : List Slot) (run : Run) (i 
 
   pub place-shown :
       badPlaceAt facts (getD firsts i (record { 0 = 0 })) (run .slot) (getD (run .flows) i (idleOf 0)) i ≡ badPlace facts (dueBy facts firsts run) (stateOf run) i
-  unfolding badPlaceAt badPlace stateOf placeOf slotOf
+  unfolding badPlaceAt badPlace stateOf placeOf slotIn
   place-shown = refl
 
   pub overrun-shown :
       overrunAt (flowIn records i) (getD firsts i (record { 0 = 0 })) (run .slot) (getD (run .flows) i (idleOf 0)) ≡ overrun facts (dueBy facts firsts run) (stateOf run) i
-  unfolding overrun overrunAt released releasedAt stateOf placeOf slotOf flowIn factsOf
+  unfolding overrun overrunAt released releasedAt stateOf placeOf slotIn flowIn factsOf
   overrun-shown = refl
 
 -- codes 10, 12 and 11, each where those before it have passed

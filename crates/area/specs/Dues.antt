@@ -8,19 +8,19 @@ use Rattle.trade.specs.Facts.{Facts}
 use Rattle.trade.specs.Slot.{Releases, periodic, releasesOf, doneNow}
 use Rattle.trade.specs.declared.clock.Slot.{Slot}
 use Rattle.trade.specs.declared.state.Run.{Run}
-use Rattle.slot.specs.States.{placeOf, stateOf, slotOf}
+use Rattle.slot.specs.States.{placeOf, stateOf, slotIn}
 use Rattle.area.specs.Refusals.{runAnswer}
 use Rattle.area.specs.declared.due.Due.{Due}
 
 -- what is due in the slot of a run, by the first release of each flow
 abbrev pub dueBy : Facts → List Slot → Run → Releases
-dueBy f firsts run = periodic f (slotOf firsts) (run .slot .0)
+dueBy f firsts run = periodic f (slotIn firsts) (run .slot .0)
 
 -- the first releases of the flows of a book: their phases; slot 0 at other places
 pub record FirstReleases (f : Facts) (r : List Slot) : Type 0 where
   pub size : length r ≡ mostFlows
-  pub phases : (i : ℕ) → i < f .flows → slotOf r i ≡ f .phase i
-  pub others : (i : ℕ) → f .flows ≤ i → slotOf r i ≡ 0
+  pub phases : (i : ℕ) → i < f .flows → slotIn r i ≡ f .phase i
+  pub others : (i : ℕ) → f .flows ≤ i → slotIn r i ≡ 0
 
 -- a run after the releases of its slot: each flow's steps done are those after them, and other places stay
 pub record AfterReleases (f : Facts) (run r : Run) : Type 0 where

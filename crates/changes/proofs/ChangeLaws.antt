@@ -13,8 +13,8 @@ use Rattle.trade.specs.Calls.{Adding, Removing, tableRules, recordOf, withFlow,
 use Rattle.trade.specs.declared.answer.Answer.{Answer}
 use Rattle.trade.proofs.Answers.{done-first, refused-second}
 use Rattle.trade.proofs.Used.{NoMore, no-more-facts}
-use Rattle.changes.specs.Cut.{exchangeIn, coming, going, Recuts}
-use Rattle.changes.proofs.CutLaws.{cut-no-more, coming-is, coming-recuts, going-is, going-recuts}
+use Rattle.changes.specs.Cut.{exchangeIn, incoming, outgoing, Recuts}
+use Rattle.changes.proofs.CutLaws.{cut-no-more, incoming-is, incoming-recuts, outgoing-is, outgoing-recuts}
 use Rattle.changes.proofs.RulesLaws.{new-same, enter-room, add-new, leave-there}
 
 -- the table that is returned, by the answer: as handed in, or the new one
@@ -34,15 +34,15 @@ pub record Enters (a : Adding) : Type 0 where
 
 module _ (a : Adding) (e : Enters a) where
   -- the flow can be put in,
-  pub enter-recuts : Recuts (a .table) (coming (a .place) (a .flow) (a .plan))
+  pub enter-recuts : Recuts (a .table) (incoming (a .place) (a .flow) (a .plan))
   enter-recuts =
       let (room, within) = enter-room a (e .entered) in
-      coming-recuts (a .table) (e .memory) (e .old) (a .place) (a .flow) (a .plan) room within (e .len)
+      incoming-recuts (a .table) (e .memory) (e .old) (a .place) (a .flow) (a .plan) room within (e .len)
 
   -- which makes the table that it should,
-  pub enter-made : recut (used (a .table)) (exchangeIn (coming (a .place) (a .flow) (a .plan))) ≡ withFlow a
+  pub enter-made : recut (used (a .table)) (exchangeIn (incoming (a .place) (a .flow) (a .plan))) ≡ withFlow a
   unfolding withFlow
-  enter-made = ap (recut (used (a .table))) (coming-is (a .place) (a .flow) (a .plan) (e .plan))
+  enter-made = ap (recut (used (a .table))) (incoming-is (a .place) (a .flow) (a .plan) (e .plan))
 
   ten : length (recordOf (a .flow)) ≡ 10
   unfolding recordOf twoBytes
@@ -56,9 +56,9 @@ module _ (a : Adding) (e : Enters a) where
   enter-answers = new-same (tableOf (withFlow a)) (withFlow a) (no-more-facts (withFlow a) no-more) ∙ sym (add-new a (e .old) (e .entered))
 
 -- REMOVING makes the table that it should
-pub leave-made : (r : Removing) → recut (used (r .table)) (exchangeIn (going (r .place))) ≡ withoutFlow r
+pub leave-made : (r : Removing) → recut (used (r .table)) (exchangeIn (outgoing (r .place))) ≡ withoutFlow r
 unfolding withoutFlow
-leave-made r = ap (recut (used (r .table))) (going-is (r .place))
+leave-made r = ap (recut (used (r .table))) (outgoing-is (r .place))
 
 -- where the old table and the place have passed
 pub record Leaves (r : Removing) : Type 0 where
@@ -66,5 +66,5 @@ pub record Leaves (r : Removing) : Type 0 where
   pub old : firstOf tableRules noNumber (r .table) .code ≡ 0
   pub left : firstOf leaveRules noNumber r .code ≡ 0
 
-pub leave-recuts : (r : Removing) → Leaves r → Recuts (r .table) (going (r .place))
-leave-recuts r e = going-recuts (r .table) (e .memory) (e .old) (r .place) (leave-there r (e .left))
+pub leave-recuts : (r : Removing) → Leaves r → Recuts (r .table) (outgoing (r .place))
+leave-recuts r e = outgoing-recuts (r .table) (e .memory) (e .old) (r .place) (leave-there r (e .left))

@@ -29,7 +29,7 @@ use Rattle.trade.proofs.Exchange.{Fits, recut-no-more}
 use Rattle.numbers.specs.Pasting.{pastedAt}
 use Rattle.numbers.proofs.NumbersLaws.{part-tail}
 use Rattle.numbers.proofs.PastingLaws.{pasted-first, pasted-behind}
-use Rattle.changes.specs.Cut.{exchangeIn, coming, going, Possible, Recuts}
+use Rattle.changes.specs.Cut.{exchangeIn, incoming, outgoing, Possible, Recuts}
 use Rattle.changes.specs.declared.cut.Exchange.{Exchange}
 
 -- what stands before the cut, what comes and what stands behind it, put one behind the other
@@ -105,10 +105,10 @@ module _ (t : Sections) (x : Exchange) (r : Recuts t x) (ten : length (x .record
   cut-no-more = recut-no-more (used t) (exchangeIn x) (used-full t holds) fits
 
 -- A FLOW THAT COMES, with no more steps than there are places
-pub coming-is :
-    (place : ℕ) (w : Flow) (plan : List ℕ) → length plan ≡ stepBytes * mostSteps → exchangeIn (coming place w plan) ≡ entering place w plan
+pub incoming-is :
+    (place : ℕ) (w : Flow) (plan : List ℕ) → length plan ≡ stepBytes * mostSteps → exchangeIn (incoming place w plan) ≡ entering place w plan
 unfolding recordOf twoBytes
-coming-is place w plan h =
+incoming-is place w plan h =
     λ i. record { from = place; to = place; come = 1; records = recordOf w; steps = cut i }
   where
     all-of : (k : ℕ) → length plan ≤ k → take k plan ≡ plan
@@ -122,8 +122,8 @@ coming-is place w plan h =
         (lt-or-ge (w .len) mostSteps)
 
 -- A FLOW THAT GOES
-pub going-is : (place : ℕ) → exchangeIn (going place) ≡ leaving place
-going-is place = λ i. record { from = place; to = add-one place i; come = 0; records = []; steps = [] }
+pub outgoing-is : (place : ℕ) → exchangeIn (outgoing place) ≡ leaving place
+outgoing-is place = λ i. record { from = place; to = add-one place i; come = 0; records = []; steps = [] }
 
 -- EITHER may be done in a table that passed
 module _ (t : Sections) (memory : InMemory t) (passed : firstOf tableRules noNumber t .code ≡ 0) where
@@ -136,15 +136,15 @@ module _ (t : Sections) (memory : InMemory t) (passed : firstOf tableRules noNum
       record { memory = memory; nodes = valid .nodes .most; flows = s; lens = λ i h. valid .records i h .len .most; planned = p }
 
   -- where there is room at the place, for a flow whose L fits in two bytes
-  pub coming-recuts :
+  pub incoming-recuts :
       (place : ℕ) (w : Flow) (plan : List ℕ)
       → (t .flows ≡ mostFlows → ⊥)
       → place ≤ t .flows
       → w .len < 65536
-      → Recuts t (coming place w plan)
+      → Recuts t (incoming place w plan)
   unfolding factsOf sumTo field word recordOf twoBytes
-  coming-recuts place w plan room within two =
-      recuts (coming place w plan)
+  incoming-recuts place w plan room within two =
+      recuts (incoming place w plan)
       (record {
         few = valid .flows;
         order = omega arith;
@@ -156,10 +156,10 @@ module _ (t : Sections) (memory : InMemory t) (passed : firstOf tableRules noNum
       (omega (arith, word-twoBytes (w .len) [] two))
 
   -- where the place has a flow
-  pub going-recuts : (place : ℕ) → place < t .flows → Recuts t (going place)
+  pub outgoing-recuts : (place : ℕ) → place < t .flows → Recuts t (outgoing place)
   unfolding factsOf
-  going-recuts place within =
-      recuts (going place)
+  outgoing-recuts place within =
+      recuts (outgoing place)
       (record {
         few = valid .flows;
         order = omega arith;

@@ -23,12 +23,12 @@ exchangeIn x =
     }
 
 -- a flow comes in at a place; and one goes
-abbrev pub coming : ℕ → Flow → List ℕ → Exchange
-coming place w plan =
+abbrev pub incoming : ℕ → Flow → List ℕ → Exchange
+incoming place w plan =
     record { from = place; to = place; come = 1; len = min (w .len) mostSteps; records = recordOf w; steps = plan }
 
-abbrev pub going : ℕ → Exchange
-going place =
+abbrev pub outgoing : ℕ → Exchange
+outgoing place =
     record {
       from = place;
       to = place + 1;

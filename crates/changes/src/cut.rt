@@ -10,7 +10,7 @@ ghost use Rattle.trade.specs.Table.{used, tableOf, recordsRoom, stepsRoom};
 ghost use Rattle.trade.specs.Exchange.{spliced, recut};
 ghost use Rattle.trade.specs.Calls.{recordOf};
 ghost use Rattle.table.specs.Table.{sectionsIn};
-ghost use Rattle.changes.specs.Cut.{exchangeIn, coming, going, Possible, Recuts};
+ghost use Rattle.changes.specs.Cut.{exchangeIn, incoming, outgoing, Possible, Recuts};
 use numbers::numbers::put_word;
 use numbers::pasting::put_at;
 use sections::records::steps_before;
@@ -50,7 +50,7 @@ impl Exchange {
         flow: Flow,
         plan: [u8; Plan::MOST * Plan::STEP_BYTES],
     ) -> Self
-        ensures { λ r. ⌜ r ≡ coming place flow plan ⌝ }
+        ensures { λ r. ⌜ r ≡ incoming place flow plan ⌝ }
     {
         let mut len = flow.len as usize;
         if Plan::MOST < len {
@@ -69,7 +69,7 @@ impl Exchange {
     // The flow at a place goes.
     pub(crate) fn leaving(place: usize) -> Self
         requires { ⌜ place < mostFlows ⌝ }
-        ensures { λ r. ⌜ r ≡ going place ⌝ }
+        ensures { λ r. ⌜ r ≡ outgoing place ⌝ }
     {
         Exchange {
             from: place,

@@ -14,7 +14,7 @@ use Rattle.plans.specs.Plan.{stepsIn}
 use Rattle.pairs.specs.Columns.{Disturbers, Columns}
 use Rattle.pairs.proofs.GatherLaws.{figure-by-columns}
 use Rattle.sections.specs.Formed.{Formed, planAt}
-use Rattle.figures.specs.Square.{keptAt, figureBy, FilledIn, Keeps, SquareOf}
+use Rattle.figures.specs.Square.{keptAt, figureBy, FilledIn, KeepsLines, SquareOf}
 use Rattle.sections.proofs.FormedLaws.{length-plan, plan-within}
 use Rattle.figures.proofs.FiguresLaws.{figure-plans}
 
@@ -59,7 +59,7 @@ module _ (flows : ℕ) (rows records steps disturbers columns : List ℕ) (h : �
   pub keeps-figures :
       (before after : List ℕ)
       → FilledIn flows h (λ l. figureBy columns (planAt records steps l)) before after
-      → Keeps flows rows records steps h before after
+      → KeepsLines flows rows records steps h before after
   keeps-figures before after g =
       record {
         size = g .size;
@@ -67,7 +67,7 @@ module _ (flows : ℕ) (rows records steps disturbers columns : List ℕ) (h : �
       }
 
 -- the last flow has none below it
-pub keeps-last : (flows : ℕ) (rows records steps : List ℕ) (h : ℕ) (square : List ℕ) → h + 1 ≡ flows → Keeps flows rows records steps h square square
+pub keeps-last : (flows : ℕ) (rows records steps : List ℕ) (h : ℕ) (square : List ℕ) → h + 1 ≡ flows → KeepsLines flows rows records steps h square square
 keeps-last flows rows records steps h square e =
     record {
       size = refl;
@@ -78,7 +78,7 @@ keeps-last flows rows records steps h square e =
 pub square-more :
     (flows : ℕ) (rows records steps : List ℕ) (h : ℕ) (before after : List ℕ)
     → h < mostFlows
-    → Keeps flows rows records steps h before after
+    → KeepsLines flows rows records steps h before after
     → 0 < length before
     → SquareOf flows rows records steps h before
     → SquareOf flows rows records steps (suc h) after

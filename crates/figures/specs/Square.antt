@@ -27,7 +27,7 @@ pub record FilledIn (flows h : ℕ) (figure : ℕ → ℕ) (before after : List 
   pub others : (i : ℕ) → ((l : ℕ) → h < l → l < flows → i ≡ mostFlows * l + h → ⊥) → getD after i 0 ≡ getD before i 0
 
 -- what `keep` owes: the figures of flow h filled in, if there is a square at all
-pub record Keeps (flows : ℕ) (rows records steps : List ℕ) (h : ℕ) (before after : List ℕ) : Type 0 where
+pub record KeepsLines (flows : ℕ) (rows records steps : List ℕ) (h : ℕ) (before after : List ℕ) : Type 0 where
   pub size : length after ≡ length before
   pub filled : 0 < length before → FilledIn flows h (λ l. interference (factsIn 0 0 rows records steps) l h) before after
 

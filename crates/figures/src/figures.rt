@@ -10,7 +10,7 @@ ghost use Rattle.trade.specs.Facts.{factsIn};
 ghost use Rattle.trade.specs.Interference.{interference};
 ghost use Rattle.pairs.specs.Columns.{Disturbers};
 ghost use Rattle.sections.specs.Formed.{Formed, planAt};
-ghost use Rattle.figures.specs.Square.{keptAt, figureBy, Numbered, FilledIn, Keeps, HasLine};
+ghost use Rattle.figures.specs.Square.{keptAt, figureBy, Numbered, FilledIn, KeepsLines, HasLine};
 use pairs::columns::figure;
 use pairs::columns::gather;
 use pairs::interference::interference;
@@ -108,7 +108,7 @@ pub fn keep(
 )
     requires { ⌜ Formed flows (now rows) (now records) (now steps) × (h < flows) ⌝ }
     requires { ⌜ (0 < length (now square) → Disturbers (now rows) (now disturbers) × (mostFlows * flows ≤ length (now square))) ⌝ }
-    ensures { λ _. ⌜ Keeps flows (now (rows .entry)) (now (records .entry)) (now (steps .entry)) h (now (square .entry)) (now (square .exit)) ⌝ }
+    ensures { λ _. ⌜ KeepsLines flows (now (rows .entry)) (now (records .entry)) (now (steps .entry)) h (now (square .entry)) (now (square .exit)) ⌝ }
 {
     if square.len() == 0 {
         return;

@@ -17,7 +17,7 @@ use Rattle.trade.specs.Demands.{Program, Lent, Ready, ReadGrant, plannerBy, pla
 use Rattle.trade.proofs.Order.{among-at, place-of}
 use Rattle.trade.proofs.Grants.{length-grant, grant-at, grant-says}
 use Rattle.trade.proofs.Valid.{Valid, same-flow}
-use Rattle.response.specs.Promise.{InOrder, Granted as RunGranted, Kept as RunKept, Due as RunDue}
+use Rattle.response.specs.Promise.{InOrder, RunGranted, RunKept, RunDue}
 use Rattle.response.proofs.Granted.{granted-below, granted-unfinished, granted-once, granted-apart}
 use Rattle.response.proofs.Released.{released-late, release-comes, released-apart, instance-released, instance-within, periodic-in-order}
 use Rattle.response.proofs.Due.{granted-in-one-slot, granted-due}

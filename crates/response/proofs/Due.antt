@@ -8,7 +8,7 @@ use Rattle.trade.specs.Facts.{Facts}
 use Rattle.trade.specs.Slot.{Releases, doneNow, Waits, grantedBy, among, runBy}
 use Rattle.response.specs.Course.{Course, often, after}
 use Rattle.response.specs.Waiting.{Steady}
-use Rattle.response.specs.Promise.{courseOf, InOrder, Granted, Due}
+use Rattle.response.specs.Promise.{courseOf, InOrder, RunGranted, RunDue}
 use Rattle.response.proofs.Cases.{by-order}
 use Rattle.response.proofs.One.{one-holds}
 use Rattle.response.proofs.Steady.{Quiet, Latest, Step, done-counts, after-grows, latest, find-step}
@@ -27,7 +27,7 @@ module _ (waits : Waits) (f : Facts) (releases : ℕ → Releases) (l : ℕ) (or
   granted-latest t m = latest course steady t (steady .within t m)
 
   -- a step that is granted is not granted again later
-  granted-never-again : (v k t u : ℕ) → t < u → Granted waits f releases l v k t → Granted waits f releases l v k u → ⊥
+  granted-never-again : (v k t u : ℕ) → t < u → RunGranted waits f releases l v k t → RunGranted waits f releases l v k u → ⊥
   unfolding courseOf after
   granted-never-again v k t u t< gt gu =
       let q : Latest course t = granted-latest t (gt .goes) in
@@ -41,7 +41,7 @@ module _ (waits : Waits) (f : Facts) (releases : ℕ → Releases) (l : ℕ) (or
       )
 
   -- no step of an instance is granted in two slots
-  pub granted-in-one-slot : (v k t u : ℕ) → Granted waits f releases l v k t → Granted waits f releases l v k u → t ≡ u
+  pub granted-in-one-slot : (v k t u : ℕ) → RunGranted waits f releases l v k t → RunGranted waits f releases l v k u → t ≡ u
   granted-in-one-slot v k t u gt gu =
       by-order t u
       (λ t≤. by-order u t (λ u≤. omega arith) (λ before. absurd (granted-never-again v k t u before gt gu)))
@@ -54,7 +54,7 @@ module _ (waits : Waits) (f : Facts) (releases : ℕ → Releases) (l : ℕ) (or
       → ((u : ℕ) → r < u → u < r + n → releases u .due l ≡ false)
       → (k : ℕ)
       → k < often (courseOf waits f releases l .goes) r n
-      → (u : ℕ) × (r ≤ u) × (u < r + n) × Granted waits f releases l (releases r .instance l) k u
+      → (u : ℕ) × (r ≤ u) × (u < r + n) × RunGranted waits f releases l (releases r .instance l) k u
   unfolding courseOf
   instance-steps r n due quiet k k< =
       let s : Step course r n k = find-step course steady r (steady .anew r due) n quiet k k< in
@@ -64,7 +64,7 @@ module _ (waits : Waits) (f : Facts) (releases : ℕ → Releases) (l : ℕ) (or
       (s .slot, s .from, s .before, record { goes = s .goes; step = s .step; instance = number })
 
   -- each grant is due
-  pub granted-due : (t : ℕ) → among (grantedBy waits f (releases t) (runBy waits f releases t)) l ≡ true → Due waits f releases l t
+  pub granted-due : (t : ℕ) → among (grantedBy waits f (releases t) (runBy waits f releases t)) l ≡ true → RunDue waits f releases l t
   unfolding courseOf
   granted-due t m =
       let q : Latest course t = granted-latest t m in

@@ -11,7 +11,7 @@ use Rattle.trade.specs.Facts.{Facts}
 use Rattle.trade.specs.Slot.{Releases, Waits}
 use Rattle.trade.proofs.First.{and-true, some-intro, some-true}
 use Rattle.response.specs.Course.{Course, often}
-use Rattle.response.specs.Promise.{courseOf, InOrder, Granted, Kept}
+use Rattle.response.specs.Promise.{courseOf, InOrder, RunGranted, RunKept}
 use Rattle.response.proofs.Cases.{by-order}
 use Rattle.response.proofs.Steady.{done-grows}
 use Rattle.response.proofs.InOrder.{number-stays}
@@ -44,7 +44,7 @@ module _
     slot-granted :
         (k : ℕ)
         → k < often (course .goes) r n
-        → (slot-of course r n k < r + n) × Granted waits f releases l (releases r .instance l) k (slot-of course r n k)
+        → (slot-of course r n k < r + n) × RunGranted waits f releases l (releases r .instance l) k (slot-of course r n k)
     unfolding courseOf slot-of goes-with
     slot-granted k k< =
         let (u, from, before, g) = instance-steps waits f releases l order r n due quiet k k< in
@@ -62,7 +62,7 @@ module _
         )
 
     -- an instance that does all its steps in these slots keeps to them
-    pub steps-kept : often (courseOf waits f releases l .goes) r n ≡ f .len l → Kept waits f releases l r n
+    pub steps-kept : often (courseOf waits f releases l .goes) r n ≡ f .len l → RunKept waits f releases l r n
     unfolding courseOf slot-of
     steps-kept all =
         record {

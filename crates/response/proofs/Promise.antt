@@ -10,7 +10,7 @@ use Rattle.trade.specs.Slot.{Releases, Waits, runBy}
 use Rattle.response.specs.Course.{Course}
 use Rattle.response.specs.Counting.{Apart}
 use Rattle.response.specs.Waiting.{Bounded, InTime, NeverMet}
-use Rattle.response.specs.Promise.{courseOf, Covers, InOrder, Kept}
+use Rattle.response.specs.Promise.{courseOf, Covers, InOrder, RunKept}
 use Rattle.response.proofs.Cases.{by-test}
 use Rattle.response.proofs.Steady.{after-counts}
 use Rattle.response.proofs.Waiting.{bound-positive, finished-in-time, never-met}
@@ -72,7 +72,7 @@ module _
         rw (sym e) (run-done waits f releases (r + R l - 1) l ∙ run-in-time l r l< due (r + R l - 1) e)
 
     -- and each of its steps is granted within these slots
-    pub kept : (l r : ℕ) → l < f .flows → InOrder releases l → releases r .due l ≡ true → Kept waits f releases l r (R l)
+    pub kept : (l r : ℕ) → l < f .flows → InOrder releases l → releases r .due l ≡ true → RunKept waits f releases l r (R l)
     unfolding courseOf
     kept l r l< order due =
         let c : Course = courseOf waits f releases l in

@@ -49,26 +49,26 @@ abbrev pub releaseAt : Facts → (ℕ → ℕ) → ℕ → ℕ → ℕ
 releaseAt f firsts l v = firsts l + v * f .period l
 
 -- step k of instance v of flow l is granted in slot t
-pub record Granted (waits : Waits) (f : Facts) (releases : ℕ → Releases) (l v k t : ℕ) : Type 0 where
+pub record RunGranted (waits : Waits) (f : Facts) (releases : ℕ → Releases) (l v k t : ℕ) : Type 0 where
   pub goes : among (grantedBy waits f (releases t) (runBy waits f releases t)) l ≡ true
   pub step : doneNow (releases t) (runBy waits f releases t) l ≡ k
   pub instance : releases t .instance l ≡ v
 
 -- the steps of the instance of flow l that is released in slot r are granted within R slots: each in a slot of its own, in order
-pub record Kept (waits : Waits) (f : Facts) (releases : ℕ → Releases) (l r R : ℕ) : Type 0 where
+pub record RunKept (waits : Waits) (f : Facts) (releases : ℕ → Releases) (l r R : ℕ) : Type 0 where
   pub slot : ℕ → ℕ
-  pub granted : (k : ℕ) → k < f .len l → Granted waits f releases l (releases r .instance l) k (slot k)
+  pub granted : (k : ℕ) → k < f .len l → RunGranted waits f releases l (releases r .instance l) k (slot k)
   pub released : (k : ℕ) → k < f .len l → r ≤ slot k
   pub within : (k : ℕ) → k < f .len l → slot k < r + R
   pub ordered : (k n : ℕ) → k < n → n < f .len l → slot k < slot n
 
 -- a grant of flow l in slot t is due: its instance is released, and the earlier steps of that instance were granted since its
 -- release
-pub record Due (waits : Waits) (f : Facts) (releases : ℕ → Releases) (l t : ℕ) : Type 0 where
+pub record RunDue (waits : Waits) (f : Facts) (releases : ℕ → Releases) (l t : ℕ) : Type 0 where
   pub release : ℕ
   pub released : releases release .due l ≡ true
   pub past : release ≤ t
   pub next :
       (k : ℕ)
       → k < doneNow (releases t) (runBy waits f releases t) l
-      → (u : ℕ) × (release ≤ u) × (u < t) × Granted waits f releases l (releases t .instance l) k u
+      → (u : ℕ) × (release ≤ u) × (u < t) × RunGranted waits f releases l (releases t .instance l) k u

@@ -30,11 +30,11 @@ use Rattle.trade.proofs.Slot.{going-below}
 use Rattle.trade.proofs.Alike.{alike-self}
 use Rattle.trade.proofs.Prefix.{Level, greedy-local, alike-granted, grants-among}
 use Rattle.sections.specs.Formed.{Formed}
-use Rattle.slot.specs.States.{placeOf, stateOf, slotOf, onceMade, noneDue, bytesOf}
+use Rattle.slot.specs.States.{placeOf, stateOf, slotIn, onceMade, noneDue, bytesOf}
 use Rattle.slot.specs.Choice.{sentAt, Chooses}
 use Rattle.slot.specs.declared.choice.Choice.{Choice}
 use Rattle.slot.specs.Release.{instanceBy}
-use Rattle.slot.specs.Granting.{placesIn, grantBy, grantAt, Granting, Grants}
+use Rattle.slot.specs.Granting.{placesIn, grantBy, grantFor, Granting, Grants}
 use Rattle.slot.specs.declared.granting.Outcome.{Outcome}
 use Rattle.slot.proofs.Places.{area-same}
 use Rattle.slot.proofs.GrantingLaws.{places-chosen, places-past, going-few}
@@ -159,12 +159,12 @@ module _
             }
 
         module _ (passes : slotAnswer facts area .code ≡ 0) (firsts : List Slot) (phases : FirstReleases part firsts) (room : List ℕ) (out : Outcome) (left : List ℕ) (gave : Grants records firsts after choice room out left) where
-          first-is : (i : ℕ) → i < flows → slotOf firsts i ≡ field records i 1
+          first-is : (i : ℕ) → i < flows → slotIn firsts i ≡ field records i 1
           unfolding factsOf
           first-is i h = phases .phases i h
 
-          grant-is : (i : ℕ) → among (slotGranted facts area) i ≡ true → grantAt records firsts after choice i ≡ grantOf facts due state i
-          unfolding grantAt grantBy bytesOf instanceBy flowIn grantOf instanceAt grantedBy factsOf slotOf placeOf
+          grant-is : (i : ℕ) → among (slotGranted facts area) i ≡ true → grantFor records firsts after choice i ≡ grantOf facts due state i
+          unfolding grantFor grantBy bytesOf instanceBy flowIn grantOf instanceAt grantedBy factsOf slotIn placeOf
           grant-is i m =
               let h : i < flows = going-below (greedy facts due state) (unfinished facts due state) flows i m .0 in
               let sends : sentAt (choice .sent) i ≡ nextStep facts due state i =
@@ -207,6 +207,6 @@ module _
                     λ z.
                     gave .grants
                     ∙ ap (λ (bytes : List ℕ). over bytes room)
-                    (ap (grantsOf (grantAt records firsts after choice)) places-are
-                    ∙ grants-among (grantAt records firsts after choice) (grantOf facts due state) (slotGranted facts area) grant-is);
+                    (ap (grantsOf (grantFor records firsts after choice)) places-are
+                    ∙ grants-among (grantFor records firsts after choice) (grantOf facts due state) (slotGranted facts area) grant-is);
               }

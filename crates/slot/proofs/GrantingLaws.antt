@@ -32,7 +32,7 @@ use Rattle.numbers.specs.Pasting.{pastedAt}
 use Rattle.numbers.proofs.PastingLaws.{pasted, pasted-next}
 use Rattle.slot.specs.States.{placeOf, bytesOf}
 use Rattle.slot.specs.Choice.{sentAt}
-use Rattle.slot.specs.Granting.{grantBy, grantAt, placesIn, Granting, Grants}
+use Rattle.slot.specs.Granting.{grantBy, grantFor, placesIn, Granting, Grants}
 use Rattle.slot.specs.declared.choice.Choice.{Choice}
 use Rattle.slot.proofs.Places.{stored, unstored}
 
@@ -139,13 +139,13 @@ places-fewer set k (suc m) h =
 
 module _ (records : List ℕ) (firsts : List Slot) (run : Run) (choice : Choice) (lent : List ℕ) where
   abbrev grant : ℕ → List ℕ
-  grant = grantAt records firsts run choice
+  grant = grantFor records firsts run choice
 
   abbrev goes : ℕ
   goes = choice .places
 
   nine : (i : ℕ) → length (grant i) ≡ grantBytes
-  unfolding grantAt bytesOf twoBytes fourBytes
+  unfolding grantFor bytesOf twoBytes fourBytes
   nine i = refl
 
   -- what has been given to the flows of some places
@@ -260,7 +260,7 @@ module _ (records : List ℕ) (firsts : List Slot) (run : Run) (choice : Choice)
         after = putMid (grantBytes * count) (length grants - grantBytes * count) grants last
 
         bytes : bytesOf g ≡ grant p
-        unfolding grantAt placeOf
+        unfolding grantFor placeOf
         bytes = ap bytesOf (same ∙ ap (λ (d : ℕ). grantBy (flowIn records p) (getD firsts p (record { 0 = 0 })) (run .slot) (record { 0 = d }) (sentAt (choice .sent) p)) flow-done)
 
         wrote : after ≡ pastedAt (grantBytes * count) (grant p) grants

@@ -21,7 +21,7 @@ use Rattle.trade.specs.declared.state.Progress.{Progress}
 use Rattle.numbers.specs.Pasting.{pastedAt}
 use Rattle.numbers.proofs.PastingLaws.{pasted-next}
 use Rattle.trade.specs.declared.clock.Slot.{Slot}
-use Rattle.slot.specs.States.{placeOf, slotOf}
+use Rattle.slot.specs.States.{placeOf, slotIn}
 
 -- the place that was stored to, and any other
 pub stored : (places : List Progress) (i : ℕ) (p : Progress) → i < length places → placeOf (set places i p) i ≡ p .done .0
@@ -33,12 +33,12 @@ unfolding placeOf
 unstored places i j p n = ap (λ (q : Progress). q .done .0) (getD-set-other places i j p (idleOf 0) n)
 
 -- the same of slots in a list
-pub slot-stored : (slots : List Slot) (i : ℕ) (v : Slot) → i < length slots → slotOf (set slots i v) i ≡ v .0
-unfolding slotOf
+pub slot-stored : (slots : List Slot) (i : ℕ) (v : Slot) → i < length slots → slotIn (set slots i v) i ≡ v .0
+unfolding slotIn
 slot-stored slots i v h = ap (λ (w : Slot). w .0) (getD-set-same slots i v (record { 0 = 0 }) h)
 
-pub slot-unstored : (slots : List Slot) (i j : ℕ) (v : Slot) → (j ≡ i → ⊥) → slotOf (set slots i v) j ≡ slotOf slots j
-unfolding slotOf
+pub slot-unstored : (slots : List Slot) (i j : ℕ) (v : Slot) → (j ≡ i → ⊥) → slotIn (set slots i v) j ≡ slotIn slots j
+unfolding slotIn
 slot-unstored slots i j v n = ap (λ (w : Slot). w .0) (getD-set-other slots i j v (record { 0 = 0 }) n)
 
 -- the places of the empty run are 0, and so are slots before any is stored
@@ -51,8 +51,8 @@ pub unused : (k : ℕ) → placeOf (emptyRun .flows) k ≡ 0
 unfolding placeOf
 unused k = ap (λ (p : Progress). p .done .0) (repeated mostFlows k (idleOf 0))
 
-pub slots-none : (k : ℕ) → slotOf (replicate mostFlows (record { 0 = 0 })) k ≡ 0
-unfolding slotOf
+pub slots-none : (k : ℕ) → slotIn (replicate mostFlows (record { 0 = 0 })) k ≡ 0
+unfolding slotIn
 slots-none k = ap (λ (w : Slot). w .0) (repeated mostFlows k (record { 0 = 0 }))
 
 -- a figure's values at one index more

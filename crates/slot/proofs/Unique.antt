@@ -14,7 +14,7 @@ use Rattle.trade.proofs.Unique.{OneResult, one-result}
 use Rattle.nodes.proofs.MaskLaws.{same-bits}
 use Rattle.trade.specs.declared.node.Transmission.{Transmission}
 use Rattle.plans.specs.Plan.{noStep}
-use Rattle.slot.specs.States.{placeOf, slotOf}
+use Rattle.slot.specs.States.{placeOf, slotIn}
 use Rattle.slot.specs.Choice.{sentAt}
 use Rattle.slot.proofs.choice.chosen.Kinds as chosen-kinds
 use Rattle.slot.proofs.choice.chosen.Reads as chosen
@@ -28,8 +28,8 @@ pub same-places : (ps qs : List Progress) → length ps ≡ length qs → ((i : 
 unfolding placeOf
 same-places ps qs size e = ext-getD (idleOf 0) ps qs size (λ i h t. record { done = record { 0 = e i t } })
 
-pub same-slots : (ps qs : List Slot) → length ps ≡ length qs → ((i : ℕ) → slotOf ps i ≡ slotOf qs i) → ps ≡ qs
-unfolding slotOf
+pub same-slots : (ps qs : List Slot) → length ps ≡ length qs → ((i : ℕ) → slotIn ps i ≡ slotIn qs i) → ps ≡ qs
+unfolding slotIn
 same-slots ps qs size e = ext-getD (record { 0 = 0 }) ps qs size (λ i h t. record { 0 = e i t })
 
 pub same-run : (r r' : Run) → r .slot .0 ≡ r' .slot .0 → length (r .flows) ≡ length (r' .flows) → ((i : ℕ) → placeOf (r .flows) i ≡ placeOf (r' .flows) i) → r ≡ r'

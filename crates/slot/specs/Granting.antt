@@ -34,8 +34,8 @@ grantBy flow first slot done step =
     }
 
 -- the grant of the flow at a place, in its nine bytes
-unfoldable pub grantAt : List ℕ → List Slot → Run → Choice → ℕ → List ℕ
-grantAt records firsts run choice i =
+unfoldable pub grantFor : List ℕ → List Slot → Run → Choice → ℕ → List ℕ
+grantFor records firsts run choice i =
     bytesOf (grantBy (flowIn records i) (getD firsts i (record { 0 = 0 })) (run .slot) (getD (run .flows) i (idleOf 0) .done) (sentAt (choice .sent) i))
 
 -- the places below k that are in a set, in record order: of the flows in the set none waits
@@ -60,4 +60,4 @@ pub record Grants (records : List ℕ) (firsts : List Slot) (run : Run) (choice 
   pub size : length (r .run .flows) ≡ length (run .flows)
   pub places : (i : ℕ) → placeOf (r .run .flows) i ≡ placeOf (run .flows) i + one (bit (choice .places) i)
   pub count : r .count ≡ length (placesIn (choice .places) mostFlows)
-  pub grants : left ≡ over (grantsOf (grantAt records firsts run choice) (placesIn (choice .places) mostFlows)) lent
+  pub grants : left ≡ over (grantsOf (grantFor records firsts run choice) (placesIn (choice .places) mostFlows)) lent

@@ -20,8 +20,8 @@ unfoldable pub stateOf : Run → State
 stateOf r = record { slot = r .slot .0; done = placeOf (r .flows) }
 
 -- the slots that a list holds; 0 past its end
-unfoldable pub slotOf : List Slot → ℕ → ℕ
-slotOf slots i = getD slots i (record { 0 = 0 }) .0
+unfoldable pub slotIn : List Slot → ℕ → ℕ
+slotIn slots i = getD slots i (record { 0 = 0 }) .0
 
 -- releases that have been made: none is due any more
 abbrev pub onceMade : Releases → Releases

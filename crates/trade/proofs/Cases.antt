@@ -21,7 +21,7 @@ use Rattle.trade.specs.Codes.{outside, code1, code2, code3, code4, badRo
 use Rattle.trade.specs.SlotCodes.{badPlace, code10, code12, overrun, code11}
 use Rattle.trade.specs.Exchange.{spliced, recut}
 use Rattle.trade.specs.Calls.{bookRules, tableRules, readAnswer, readOf, checkRulesBy, checkAnswerBy, boundsBy, checkBy, writeAnswer, writeOf, recordOf, withFlow, enterRules, newRules, addAnswer, addOf, withoutFlow, leaveRules, removeAnswer, removeOf, startAnswerBy, startArea, startBy, flowsGrantedBy, advanceAnswerBy, nextAreaBy, grantsInBy, advanceBy, advanceAnswer, grantsIn, advanceOf}
-use Rattle.trade.specs.Cases.{bookA, bookB, bookOfNone, deadlineAt, lent, grantRoom, areaAfter, slotOf, only, noneDisturbs, bareRows, bare, threeByThree, noMark, noNodes, badDistance, ownBit, noId, longerPlan, jump, tooTight, checks, starts, advances, areaWith, tableA, fullTable, adds, removes, writes, withRecords, withSteps, Cases}
+use Rattle.trade.specs.Cases.{bookA, bookB, bookOfNone, deadlineAt, lent, grantRoom, areaAfter, slotOf, oneDisturbs, noneDisturbs, bareRows, bare, threeByThree, noMark, noNodes, badDistance, ownBit, noId, longerPlan, jump, tooTight, checks, starts, advances, areaWith, tableA, fullTable, adds, removes, writes, withRecords, withSteps, Cases}
 
 -- with no flows an advance that is done has no grant to count or to write
 every-slot-empty :
@@ -29,7 +29,7 @@ every-slot-empty :
     → advanceOf (record { book = bookOfNone; area = area; grants = grants }) .answer .code ≡ 0
     → (advanceOf (record { book = bookOfNone; area = area; grants = grants }) .answer .number ≡ 0)
     × (advanceOf (record { book = bookOfNone; area = area; grants = grants }) .grants ≡ grants)
-unfolding firstFrom first some sumTo largestFrom listFrom listTo word long twoBytes fourBytes bit part padded over trailer rowsDistance recordsDistance stepsDistance nodeCount flowCount sectionsOf field disturbsIn stepIn factsOf said firstStep allSteps stepOf stepsDistanceOf recordsDistanceOf rowsDistanceOf trailerOf used bookOf tableOf emptyTable isDone given givenFirst firstOf on meet conflict conflictsWith conflictFree one countOf worst worstPath matrix interference ceil instances slotsNeeded admissible boundBy boundlessBy acceptedBy atStart released instanceAt doneNow unfinished nextStep going greedy grantedBy among nextStateBy runBy grantOf grantsOf stateIn areaOf outside code1 code2 code3 code4 badRow code5 badRecord code6 code7 firstOfPlan repeats goesOn badStep code8 code14 code15Adding code15Removing code9By code13 badPlace code10 code12 overrun code11 bookRules tableRules readAnswer readOf checkRulesBy checkAnswerBy boundsBy checkBy writeAnswer writeOf recordOf spliced recut withFlow enterRules newRules addAnswer addOf withoutFlow leaveRules removeAnswer removeOf startAnswerBy startArea startBy flowsGrantedBy advanceAnswerBy nextAreaBy grantsInBy advanceBy bookA bookB bookOfNone deadlineAt lent grantRoom areaAfter slotOf only noneDisturbs bareRows bare threeByThree noMark noNodes badDistance ownBit noId longerPlan jump tooTight checks starts advances areaWith tableA fullTable adds removes writes withRecords withSteps
+unfolding firstFrom first some sumTo largestFrom listFrom listTo word long twoBytes fourBytes bit part padded over trailer rowsDistance recordsDistance stepsDistance nodeCount flowCount sectionsOf field disturbsIn stepIn factsOf said firstStep allSteps stepOf stepsDistanceOf recordsDistanceOf rowsDistanceOf trailerOf used bookOf tableOf emptyTable isDone given givenFirst firstOf on meet conflict conflictsWith conflictFree one countOf worst worstPath matrix interference ceil instances slotsNeeded admissible boundBy boundlessBy acceptedBy atStart released instanceAt doneNow unfinished nextStep going greedy grantedBy among nextStateBy runBy grantOf grantsOf stateIn areaOf outside code1 code2 code3 code4 badRow code5 badRecord code6 code7 firstOfPlan repeats goesOn badStep code8 code14 code15Adding code15Removing code9By code13 badPlace code10 code12 overrun code11 bookRules tableRules readAnswer readOf checkRulesBy checkAnswerBy boundsBy checkBy writeAnswer writeOf recordOf spliced recut withFlow enterRules newRules addAnswer addOf withoutFlow leaveRules removeAnswer removeOf startAnswerBy startArea startBy flowsGrantedBy advanceAnswerBy nextAreaBy grantsInBy advanceBy bookA bookB bookOfNone deadlineAt lent grantRoom areaAfter slotOf oneDisturbs noneDisturbs bareRows bare threeByThree noMark noNodes badDistance ownBit noId longerPlan jump tooTight checks starts advances areaWith tableA fullTable adds removes writes withRecords withSteps
 every-slot-empty area grants e = (ap (λ (r : Answer). r .number) (advance-done greedy releasesOf (record { book = bookOfNone; area = area; grants = grants }) e), either (isDone (advanceAnswer (record { book = bookOfNone; area = area; grants = grants }))))
   where
     either : (b : Bool) → _≡_ {A = List ℕ} (cond b (over (grantsIn (record { book = bookOfNone; area = area; grants = grants })) grants) grants) grants
@@ -37,7 +37,7 @@ every-slot-empty area grants e = (ap (λ (r : Answer). r .number) (advance-done 
     either false = refl
 
 pub cases-hold : Cases
-unfolding firstFrom first some sumTo largestFrom listFrom listTo word long twoBytes fourBytes bit part padded over trailer rowsDistance recordsDistance stepsDistance nodeCount flowCount sectionsOf field disturbsIn stepIn factsOf said firstStep allSteps stepOf stepsDistanceOf recordsDistanceOf rowsDistanceOf trailerOf used bookOf tableOf emptyTable isDone given givenFirst firstOf on meet conflict conflictsWith conflictFree one countOf worst worstPath matrix interference ceil instances slotsNeeded admissible boundBy boundlessBy acceptedBy atStart released instanceAt doneNow unfinished nextStep going greedy grantedBy among nextStateBy runBy grantOf grantsOf stateIn areaOf outside code1 code2 code3 code4 badRow code5 badRecord code6 code7 firstOfPlan repeats goesOn badStep code8 code14 code15Adding code15Removing code9By code13 badPlace code10 code12 overrun code11 bookRules tableRules readAnswer readOf checkRulesBy checkAnswerBy boundsBy checkBy writeAnswer writeOf recordOf spliced recut withFlow enterRules newRules addAnswer addOf withoutFlow leaveRules removeAnswer removeOf startAnswerBy startArea startBy flowsGrantedBy advanceAnswerBy nextAreaBy grantsInBy advanceBy bookA bookB bookOfNone deadlineAt lent grantRoom areaAfter slotOf only noneDisturbs bareRows bare threeByThree noMark noNodes badDistance ownBit noId longerPlan jump tooTight checks starts advances areaWith tableA fullTable adds removes writes withRecords withSteps
+unfolding firstFrom first some sumTo largestFrom listFrom listTo word long twoBytes fourBytes bit part padded over trailer rowsDistance recordsDistance stepsDistance nodeCount flowCount sectionsOf field disturbsIn stepIn factsOf said firstStep allSteps stepOf stepsDistanceOf recordsDistanceOf rowsDistanceOf trailerOf used bookOf tableOf emptyTable isDone given givenFirst firstOf on meet conflict conflictsWith conflictFree one countOf worst worstPath matrix interference ceil instances slotsNeeded admissible boundBy boundlessBy acceptedBy atStart released instanceAt doneNow unfinished nextStep going greedy grantedBy among nextStateBy runBy grantOf grantsOf stateIn areaOf outside code1 code2 code3 code4 badRow code5 badRecord code6 code7 firstOfPlan repeats goesOn badStep code8 code14 code15Adding code15Removing code9By code13 badPlace code10 code12 overrun code11 bookRules tableRules readAnswer readOf checkRulesBy checkAnswerBy boundsBy checkBy writeAnswer writeOf recordOf spliced recut withFlow enterRules newRules addAnswer addOf withoutFlow leaveRules removeAnswer removeOf startAnswerBy startArea startBy flowsGrantedBy advanceAnswerBy nextAreaBy grantsInBy advanceBy bookA bookB bookOfNone deadlineAt lent grantRoom areaAfter slotOf oneDisturbs noneDisturbs bareRows bare threeByThree noMark noNodes badDistance ownBit noId longerPlan jump tooTight checks starts advances areaWith tableA fullTable adds removes writes withRecords withSteps
 cases-hold =
     record {
       case1 = refl;

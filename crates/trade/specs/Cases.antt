@@ -94,8 +94,8 @@ abbrev pub sends : ℕ → ℕ → Transmission
 sends a b = record { sender = record { 0 = a }; receiver = record { 0 = b } }
 
 -- a disturbance by one node of one other, and by none of any
-unfoldable pub only : ℕ → ℕ → ℕ → ℕ → Bool
-only a b x y = eqb a x && eqb b y
+unfoldable pub oneDisturbs : ℕ → ℕ → ℕ → ℕ → Bool
+oneDisturbs a b x y = eqb a x && eqb b y
 
 unfoldable pub noneDisturbs : ℕ → ℕ → Bool
 noneDisturbs x y = false
@@ -221,7 +221,7 @@ pub record Cases : Type 0 where
   pub case9 : worstPath bare 4 6 ≡ 5
   -- 10. 0-1 and 2-3: free with no disturbance; in conflict if 2 disturbs 1
   pub case10-free : conflict noneDisturbs (sends 0 1) (sends 2 3) ≡ false
-  pub case10-conflict : conflict (only 2 1) (sends 0 1) (sends 2 3) ≡ true
+  pub case10-conflict : conflict (oneDisturbs 2 1) (sends 0 1) (sends 2 3) ≡ true
   -- 11. one node, no flows: 18 bytes, accepted, every slot empty: whatever area and buffer are lent, an advance that is done counts no
   -- grant and leaves the buffer as lent
   pub case11-length : length bookOfNone ≡ 18
@@ -232,8 +232,8 @@ pub record Cases : Type 0 where
       a .answer .code ≡ 0
       → (a .answer .number ≡ 0) × (a .grants ≡ grants)
   -- OURS. Disturbance is one-way: with only 1 disturbing 2, 0-1 and 2-3 are free; with only 0 disturbing 3 they conflict
-  pub one-way : conflict (only 1 2) (sends 0 1) (sends 2 3) ≡ false
-  pub other-way : conflict (only 0 3) (sends 0 1) (sends 2 3) ≡ true
+  pub one-way : conflict (oneDisturbs 1 2) (sends 0 1) (sends 2 3) ≡ false
+  pub other-way : conflict (oneDisturbs 0 3) (sends 0 1) (sends 2 3) ≡ true
   -- D of flow 7 set to 6: bounds 3 and 5
   pub tighter-carry : checkOf (deadlineAt deadlineOf7 6 bookA) .bounds ≡ 3 ∷ 5 ∷ replicate 30 0
   -- book B goes in slot 5 and book A's second instance in slot 10, with its number

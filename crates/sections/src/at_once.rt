@@ -2,7 +2,7 @@
 // not follow on from the one before them, whichever plan that is of, and those of them that are the first of a plan. No step is bad
 // if every node is there and the two counts agree.
 ghost use mathlib.Core.Path.{_≡_};
-ghost use mathlib.Core.Bool.{true, not, _&&_};
+ghost use mathlib.Core.Bool.{false, not, _&&_};
 ghost use mathlib.Core.List.{[]};
 ghost use Prim.Native.Nat.{ℕ, _+_, _*_, _/_, _%_, _≤_, _<_};
 ghost use lib.Dec.{eqb};
@@ -121,17 +121,17 @@ fn count_anew(flows: usize, records: &[u8], steps: &[u8]) -> Begun
     Begun { all, anew }
 }
 
-// Whether every node is there and the two counts agree. If so, code 8 is not given; if not the steps are to be searched.
-pub(crate) fn counts_agree(nodes: usize, flows: usize, records: &[u8], steps: &[u8]) -> bool
+// Whether code 8 is in doubt: a node is not there, or the two counts do not agree. If not, it is not given.
+pub(crate) fn steps_in_doubt(nodes: usize, flows: usize, records: &[u8], steps: &[u8]) -> bool
     requires { ⌜ (flows ≤ mostFlows) × (recordBytes * flows ≤ length (now records)) ⌝ }
     requires { ⌜ stepBytes * sumTo (λ i. field (now records) i 4) flows ≤ length (now steps) ⌝ }
-    ensures { λ r. ⌜ (r ≡ true → code8 (factsIn nodes flows [] (now (records .entry)) (now (steps .entry))) ≡ done 0) ⌝ }
+    ensures { λ r. ⌜ (r ≡ false → code8 (factsIn nodes flows [] (now (records .entry)) (now (steps .entry))) ≡ done 0) ⌝ }
 {
     let begun = count_anew(flows, records, steps);
     let all = begun.all;
     if (all < 1) | (Flow::MOST * Plan::MOST < all) {
-        return false;
+        return true;
     }
-    let inside = (highest(steps, Plan::STEP_BYTES * all) as usize) < nodes;
-    inside & (count_off(steps, all) == begun.anew)
+    let beyond = nodes <= (highest(steps, Plan::STEP_BYTES * all) as usize);
+    beyond | (count_off(steps, all) != begun.anew)
 }

@@ -104,9 +104,9 @@ fn is_bad_record(records: &[u8], i: usize, met: bool) -> bool
     is_misfit(record_at(records, i)) | repeat
 }
 
-// Whether some record is bad, with no branch that a field decides, and the ids met marked by their lower bytes. If not, code 6 is not
-// given; if so the records are to be searched.
-fn has_bad_record(flows: usize, records: &[u8]) -> bool
+// Whether code 6 is in doubt: some record is bad, told with no branch that a field decides, and the ids met marked by their lower bytes.
+// If not, it is not given.
+fn records_in_doubt(flows: usize, records: &[u8]) -> bool
     requires { ⌜ recordBytes * flows ≤ length (now records) ⌝ }
     ensures { λ r. ⌜ (r ≡ false → code6 (factsIn 0 flows [] (now (records .entry)) []) ≡ done 0) ⌝ }
 {
@@ -137,12 +137,12 @@ fn searched_records(flows: usize, records: &[u8]) -> Answer
     Answer::done(0)
 }
 
-// Code 6, at the first bad record. They are searched only if one is bad.
+// Code 6, at the first bad record. They are searched only in doubt.
 pub fn records_answer(flows: usize, records: &[u8]) -> Answer
     requires { ⌜ recordBytes * flows ≤ length (now records) ⌝ }
     ensures { λ r. ⌜ r ≡ code6 (factsIn 0 flows [] (now (records .entry)) []) ⌝ }
 {
-    if has_bad_record(flows, records) {
+    if records_in_doubt(flows, records) {
         return searched_records(flows, records);
     }
     Answer::done(0)

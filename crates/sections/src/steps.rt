@@ -9,7 +9,7 @@ ghost use Rattle.trade.specs.Layout.{field};
 ghost use Rattle.trade.specs.Facts.{factsIn};
 ghost use Rattle.trade.specs.Codes.{code8};
 ghost use Rattle.sections.specs.Steps.{misplaced, unjoined, badInPlan};
-use crate::at_once::counts_agree;
+use crate::at_once::steps_in_doubt;
 use crate::records::len_at;
 use plans::steps::step_at;
 use trade::Answer;
@@ -82,14 +82,14 @@ fn searched_steps(nodes: usize, flows: usize, records: &[u8], steps: &[u8]) -> A
     Answer::done(0)
 }
 
-// Code 8, at the first bad step, counted over all plans. They are searched only if their counts do not agree.
+// Code 8, at the first bad step, counted over all plans. They are searched only in doubt.
 pub fn steps_answer(nodes: usize, flows: usize, records: &[u8], steps: &[u8]) -> Answer
     requires { ⌜ (flows ≤ mostFlows) × (recordBytes * flows ≤ length (now records)) ⌝ }
     requires { ⌜ stepBytes * sumTo (λ i. field (now records) i 4) flows ≤ length (now steps) ⌝ }
     ensures { λ r. ⌜ r ≡ code8 (factsIn nodes flows [] (now (records .entry)) (now (steps .entry))) ⌝ }
 {
-    if counts_agree(nodes, flows, records, steps) {
-        return Answer::done(0);
+    if steps_in_doubt(nodes, flows, records, steps) {
+        return searched_steps(nodes, flows, records, steps);
     }
-    searched_steps(nodes, flows, records, steps)
+    Answer::done(0)
 }

@@ -1,4 +1,4 @@
--- `sections::records::records_answer` meets its contract: no record is bad if none is found at once, and if one is a search tells. Assumes
+-- `sections::records::records_answer` meets its contract: without doubt no record is bad, and in doubt a search tells. Assumes
 -- nothing.
 use mathlib.Core.Path.{_∙_, sym}
 use borrow.Author.Needs.{needs}
@@ -6,7 +6,7 @@ use Rattle.sections.proofs.records.records_answer.Statement.{statement}
 use Rattle.sections.proofs.records.records_answer.Tie as tie
 
 returns-2 : tie.Need-returns-2
-returns-2 c = c .done .ensures ∙ sym (c .before .before .has-bad-record .ensures (c .before .if1 .left))
+returns-2 c = c .done .ensures ∙ sym (c .before .before .records-in-doubt .ensures (c .before .if1 .left))
 
 pub records-answer-spec : {M : Type 1} → statement M
 records-answer-spec =

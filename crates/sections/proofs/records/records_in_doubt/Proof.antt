@@ -1,4 +1,4 @@
--- `sections::records::has_bad_record` meets its contract: no record before i is bad where it says so, and the lower bytes of their ids are
+-- `sections::records::records_in_doubt` meets its contract: no record before i is bad where it says so, and the lower bytes of their ids are
 -- marked. Assumes nothing.
 use Prim.Native.Nat.{ℕ, _≤_, _<_, _-_, _%_}
 use mathlib.Core.Path.{_≡_, refl, _∙_, sym}
@@ -14,8 +14,8 @@ use Rattle.trade.specs.Codes.{badRecord, code6}
 use Rattle.trade.proofs.First.{or-false}
 use Rattle.trade.proofs.Answers.{givenFirst-none}
 use Rattle.sections.proofs.RecordsLaws.{unmet, mark-more}
-use Rattle.sections.proofs.records.has_bad_record.Statement.{statement}
-use Rattle.sections.proofs.records.has_bad_record.Tie as tie
+use Rattle.sections.proofs.records.records_in_doubt.Statement.{statement}
+use Rattle.sections.proofs.records.records_in_doubt.Tie as tie
 
 abbrev Inv-loop : tie.InvT-loop
 Inv-loop flows records met₀ bad₀ i₀ met bad i =
@@ -58,7 +58,7 @@ returns c =
     givenFirst-none 6 (badRecord (factsIn 0 0 [] (now (a .records)) [])) (a .flows)
     (λ k h. c .before .loop .inv .1 e k (omega arith))
 
-pub has-bad-record-spec : {M : Type 1} → statement M
-has-bad-record-spec =
+pub records-in-doubt-spec : {M : Type 1} → statement M
+records-in-doubt-spec =
     tie.close (tie.spec Inv-loop μ-loop loop-holds (λ c κs. omega arith) (λ c. omega arith) (λ c. omega arith)
     is-bad-record-requires (λ c. omega arith) (λ c. omega arith) (λ c. omega arith) loop-again returns)

@@ -4,9 +4,14 @@
  *
  * Each call answers one number, code * 65536 + number. Code 0 is success.
  * No call keeps a pointer, allocates memory or has state of its own: all it
- * knows is in the slices that it is lent. Slices must not overlap, and a
- * pointer must not be null, not even with a length of 0. Check and start
- * take about 4 KB of stack, advance about 1 KB.
+ * knows is in the slices that it is lent. Check and start take about 4 KB
+ * of stack, advance about 1 KB.
+ *
+ * What the caller owes, and without which nothing is promised:
+ * - slices do not overlap, and a pointer is not null, not even with a length
+ *   of 0;
+ * - a run area belongs to one book: it is advanced with the book that it was
+ *   started with, and nobody else writes either while the run lasts.
  */
 #ifndef SLOT_PLANNER_H
 #define SLOT_PLANNER_H
@@ -45,10 +50,15 @@ extern "C" {
 #define SLOT_MAX_FLOWS 32u
 #define SLOT_MAX_LEN 32u      /* steps in one plan */
 #define SLOT_MAX_BOOK 2890u   /* bytes of the longest book */
-#define SLOT_AREA_BYTES 36u   /* the run area: slot (4), one byte per flow */
+#define SLOT_AREA_BYTES 36u   /* the run area: the slot to run next (4, most
+                                 significant byte first), then for each of 32
+                                 flow places the steps that the flow's latest
+                                 instance has done (1): its L where it is
+                                 idle, 0 where the book has no such flow */
 #define SLOT_GRANT_BYTES 9u   /* id (2), instance (4), step, sender, receiver;
                                  most significant byte first */
-#define SLOT_MAX_GRANTS (SLOT_MAX_FLOWS * SLOT_GRANT_BYTES)
+#define SLOT_GRANTS_BYTES (SLOT_MAX_FLOWS * SLOT_GRANT_BYTES) /* the grants of
+                                 any slot of any book */
 
 /*
  * Whether the book is well-formed and every flow has a response bound.

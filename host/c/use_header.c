@@ -58,7 +58,7 @@ static char *list(char *end, unsigned slot, const uint8_t *grant, uint32_t count
 int main(void)
 {
     uint8_t area[SLOT_AREA_BYTES];
-    uint8_t grants[SLOT_MAX_GRANTS];
+    uint8_t grants[SLOT_GRANTS_BYTES];
     char listing[12 * 2 * 40] = "";
     char *end = listing;
     uint32_t answer;

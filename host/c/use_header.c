@@ -1,5 +1,5 @@
 /*
- * The three calls from C: book A of document 01, run for twelve slots and
+ * The three calls from C: book A of the rules, run for twelve slots and
  * listed, then one refusal of each call. Exits with 0 if all is as it should be.
  */
 #include "slot_planner.h"
@@ -78,7 +78,7 @@ int main(void)
     }
     fputs(listing, stdout);
     if (strcmp(listing, wanted) != 0)
-        return wrong("the listing is not that of document 01; the last answer was", answer);
+        return wrong("the listing is not that of the rules; the last answer was", answer);
 
     answer = slot_check(book + 1, sizeof book - 1);
     if (SLOT_CODE(answer) != SLOT_BAD_DISTANCE)

@@ -1,4 +1,4 @@
-//! The cases of document 01 that any planner can be asked through the three calls.
+//! The cases of the rules that any planner can be asked through the three calls.
 
 use crate::answer::*;
 use crate::draft::{book_a, book_b, Draft, DraftFlow};

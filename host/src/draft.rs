@@ -75,7 +75,7 @@ pub fn neighbours(nodes: usize) -> Vec<u64> {
     (0..nodes).map(|x| ((1u64 << x) << 1 | (1u64 << x) >> 1) & all).collect()
 }
 
-/// Book A of document 01.
+/// Book A of the rules.
 pub fn book_a() -> Draft {
     let flow = |id, period, plan| DraftFlow { id, phase: 0, period, deadline: period, plan };
     Draft {
@@ -84,7 +84,7 @@ pub fn book_a() -> Draft {
     }
 }
 
-/// Book B of document 01.
+/// Book B of the rules.
 pub fn book_b() -> Draft {
     let flow = |id, phase, period, deadline, plan| DraftFlow { id, phase, period, deadline, plan };
     Draft {

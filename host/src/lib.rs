@@ -1,4 +1,4 @@
-//! The Rust side of the slot planner: an independent scheduler written from document 01 (`plain`), an optimised
+//! The Rust side of the slot planner: an independent scheduler written from the rules (`plain`), an optimised
 //! one as a yardstick (`keen`), the proved library behind its C interface (`proved`, when an archive is linked),
 //! and what the programs under `bin/` need to compare, watch and time them.
 #![deny(unsafe_code)]

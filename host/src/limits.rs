@@ -1,4 +1,4 @@
-//! The figures of document 01, each once.
+//! The figures of the rules, each once.
 
 /// Nodes are numbered from 0, and a row has one bit for each.
 pub const MAX_NODES: usize = 64;

@@ -17,7 +17,7 @@ pub type PlainCase = (&'static str, fn() -> Result<(), String>);
 pub const PLAIN_CASES: &[PlainCase] = &[
     ("2, I(9,7) and its conflicts", interference_of_a),
     ("3 and 6, bounds as figures", bounds_of_both),
-    ("9, bare matrix of document 002", bare_matrix),
+    ("9, a bare matrix", bare_matrix),
     ("the two ways to the interference agree", both_ways),
     ("a written book reads back", round_trip),
     ("codes of writing", codes_of_writing),

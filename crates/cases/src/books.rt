@@ -1,4 +1,4 @@
-// Books A and B of document 01, and the largest table.
+// Books A and B of the rules, and the largest table.
 use trade::Book;
 use trade::Flow;
 use trade::Node;

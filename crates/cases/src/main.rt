@@ -1,4 +1,4 @@
-// Cases of document 01 over the proved calls.
+// Cases of the rules over the proved calls.
 mod books;
 mod desk;
 mod orders;

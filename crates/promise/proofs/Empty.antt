@@ -1,4 +1,4 @@
--- The demands turn the empty programs away: on books A and B each breaks the demand that document 01 names for it. What the planner
+-- The demands turn the empty programs away: on books A and B each breaks the demand that is named for it. What the planner
 -- does there is taken from the table of proved cases. Assumes nothing.
 use Prim.Native.Nat.{ℕ, suc, _*_, _^_, _<_}
 use mathlib.Core.Path.{_≡_, refl, sym, _∙_, ap, subst}

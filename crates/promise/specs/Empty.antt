@@ -1,4 +1,4 @@
--- The empty programs of document 01, which the demands turn away: each is the planner with one call replaced. Leans on the trade's
+-- Five empty programs, which the demands turn away: each is the planner with one call replaced. Leans on the trade's
 -- Demands.
 use Prim.Native.Nat.{ℕ, suc}
 use mathlib.Core.Path.{_≡_}
@@ -70,7 +70,7 @@ inventsCount count =
       grants = advanceOf a .grants;
     })
 
--- each breaks the demand that document 01 names for it
+-- each breaks the demand that is named for it
 pub record TurnedAway : Type 0 where
   -- demand 2: acceptance happens when bounds exist
   pub refusing-all : (code number : ℕ) → Demand2 (refusesAll code number) → ⊥

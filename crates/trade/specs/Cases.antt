@@ -1,4 +1,4 @@
--- The worked cases of document 01 that are to be proved, and lines of our own, in one table. The books stand here as bytes.
+-- The worked cases of the rules, and lines of our own, in one table. The books stand here as bytes.
 -- Leans on Calls and all below it.
 use Prim.Native.Nat.{ℕ, zero, suc, _-_, _*_}
 use mathlib.Core.Path.{_≡_}

@@ -1,4 +1,4 @@
--- What a reader must believe, in the order of document 01. Each definition stands under a sentence that restates its rule.
+-- What a reader must believe, in the order of docs/RULES.md. Each definition stands under a sentence that restates its rule.
 -- The numbers that bound it.
 pub mod Limits
 -- The book, read from its end; the table.

@@ -1,4 +1,4 @@
-//! The cases of document 01 on every planner of this build, and those of `plain` alone.
+//! The cases of the rules on every planner of this build, and those of `plain` alone.
 
 use slot_host::{cases::CASES, plain_cases::PLAIN_CASES, planner};
 use std::process::ExitCode;

@@ -31,7 +31,7 @@ fn main() -> ExitCode {
     ExitCode::SUCCESS
 }
 
-/// The books of document 01, then random ones of every size.
+/// The books of the rules, then random ones of every size.
 fn draft(dice: &mut Dice, k: u64) -> Draft {
     let shape: &Shape = match k % 40 {
         0 => &FULL,

@@ -4,5 +4,4 @@ pub mod SmallestLaws
 pub mod BoundsLaws
 pub mod CheckLaws
 pub mod Monotone
-pub mod Accepts
 pub mod Unique

@@ -1,7 +1,6 @@
 -- What a check says of a book that it accepts by a measure, and that it decides by it: for any measure. Assumes nothing.
 use Prim.Native.Nat.{ℕ, _≤_, _<_}
 use mathlib.Core.Path.{_≡_, _∙_, ap}
-use mathlib.Core.Bool.{true}
 use mathlib.Core.Logic.{_↔_}
 use mathlib.Core.List.{List}
 use native.Mathlib.Omega.{arith}
@@ -9,21 +8,22 @@ use lib.Dec.{eqb}
 use lib.ListN.{length, getD, length-replicate, List·getD-eq-default}
 use borrow.Author.Tests.{eqb-true, eqb-false, not-true}
 use Rattle.trade.specs.Limits.{mostFlows}
-use Rattle.trade.specs.First.{listTo}
+use Rattle.trade.specs.First.{some, listTo}
 use Rattle.trade.specs.Facts.{Facts, said}
 use Rattle.trade.specs.Answers.{givenFirst, noNumber}
-use Rattle.trade.specs.Bound.{Measure, Admissible, boundBy, acceptedBy, code9By}
+use Rattle.trade.specs.Bound.{Measure, Admissible, boundBy, boundlessBy, acceptedBy, code9By}
 use Rattle.trade.specs.Calls.{bookRules, readAnswer, checkRulesBy, checkAnswerBy, boundsBy, checkBy}
-use Rattle.trade.specs.Demands.{Done, reportedBy, Decides}
+use Rattle.promise.specs.Demands.{Done, reported, AllBounded, Decides}
 use Rattle.trade.specs.declared.answer.Answer.{Answer}
 use Rattle.trade.proofs.Sums.{length-listTo, getD-listTo}
 use Rattle.trade.proofs.Bytes.{byte-padded, length-padded}
 use Rattle.trade.proofs.Bound.{bound-smallest, accepted-exactly}
-use Rattle.trade.proofs.Answers.{done-first, refused-second, Passed, passed-none, passed-more, passed-append, passed-first, passed-done, firstOf-passed, given-false}
+use Rattle.trade.proofs.Answers.{done-first, refused-second, Passed, passed-none, passed-more, passed-append, passed-first, passed-done, firstOf-passed, given-false, given-passed}
 use Rattle.trade.proofs.Valid.{Valid, book-valid, check-bounds}
 use Rattle.response.specs.Waiting.{Bounded}
 use Rattle.response.proofs.Cases.{by-test}
 use Rattle.response.proofs.Promise.{admissible-bounded}
+use Rattle.promise.proofs.Meets.{by-definition}
 use Rattle.promise.proofs.Sound.{Carries}
 
 -- the bounds of a book's flows
@@ -64,14 +64,14 @@ module _ (measured : Facts → Measure) (b : List ℕ) (accepted : Done (checkBy
   unfolding checkBy
   reports = done-first (checkAnswerBy measured b) _ _ accepted
 
-  pub reported-bound : (l : ℕ) → l < said b .flows → reportedBy (checkBy measured) b l ≡ boundsIn measured b l
+  pub reported-bound : (l : ℕ) → l < said b .flows → reported (checkBy measured b) l ≡ boundsIn measured b l
   unfolding boundsBy
   reported-bound l h =
       ap (λ (all : List ℕ). getD all l 0) reports
       ∙ byte-padded mostFlows (listTo (boundsIn measured b) (said b .flows)) l
       ∙ getD-listTo (boundsIn measured b) (said b .flows) l h
 
-  reported-elsewhere : (l : ℕ) → said b .flows ≤ l → reportedBy (checkBy measured) b l ≡ 0
+  reported-elsewhere : (l : ℕ) → said b .flows ≤ l → reported (checkBy measured b) l ≡ 0
   unfolding boundsBy
   reported-elsewhere l h =
       ap (λ (all : List ℕ). getD all l 0) reports
@@ -85,24 +85,23 @@ module _ (measured : Facts → Measure) (b : List ℕ) (accepted : Done (checkBy
       ∙ length-padded mostFlows (listTo (boundsIn measured b) (said b .flows))
       (omega (arith, length-listTo (boundsIn measured b) (said b .flows), accepted-valid .flows))
 
-module _ (measured : Facts → Measure) where
-  -- facts that are accepted pass code 9
-  code9-passes : (f : Facts) → acceptedBy f (measured f) ≡ true → Done (code9By f (measured f))
-  unfolding acceptedBy code9By givenFirst
-  code9-passes f e = ap (λ (a : Answer). a .code) (given-false 9 _ _ (not-true _ e))
+-- code 9 is not given exactly where every flow has a response bound within its deadline
+pub code9-exactly : (f : Facts) (μ : Measure) → Done (code9By f μ) ↔ AllBounded f μ
+unfolding code9By acceptedBy givenFirst
+code9-exactly f μ = (
+  λ e. accepted-exactly f μ .0 (rw (given-passed 8 (some (boundlessBy f μ) (f .flows)) _ e)),
+  λ a. ap (λ (r : Answer). r .code) (given-false 9 _ _ (not-true _ (accepted-exactly f μ .1 a))),
+)
 
-  accepts :
-      (b : List ℕ)
-      → Done (readAnswer b)
-      → Done (checkBy measured b .answer) ↔ ((l : ℕ) → l < said b .flows → (R : ℕ) × Admissible (said b) (measured (said b)) l R)
+module _ (measured : Facts → Measure) where
+  accepts : (b : List ℕ) → Done (readAnswer b) → Done (checkBy measured b .answer) ↔ AllBounded (said b) (measured (said b))
   unfolding readAnswer checkBy checkAnswerBy checkRulesBy
   accepts b e = (
     λ c l h. (boundsIn measured b l, accepted-admissible measured b c l h),
     λ a.
         ap (λ (r : Answer). r .code)
         (passed-done noNumber
-        (passed-append (firstOf-passed bookRules noNumber b e)
-        (passed-more (code9-passes (said b) (accepted-exactly (said b) (measured (said b)) .1 a)) passed-none))),
+        (passed-append (firstOf-passed bookRules noNumber b e) (passed-more (code9-exactly (said b) (measured (said b)) .1 a) passed-none))),
   )
 
   places : (b : List ℕ) → length (checkBy measured b .bounds) ≡ mostFlows
@@ -115,12 +114,14 @@ module _ (measured : Facts → Measure) where
       ∙ length-replicate {A = ℕ} mostFlows 0)
 
   -- CHECK DECIDES BY THE MEASURE: accepted exactly when every flow has a response bound within its deadline, the bounds the smallest
-  pub check-decides : Decides measured (checkBy measured)
+  pub check-decides : Decides measured (λ b given. given ≡ checkBy measured b)
   check-decides =
       record {
-        accepts = accepts;
-        bounded = λ b c l h. rw (reported-bound measured b c l h) (accepted-admissible measured b c l h);
-        smallest = λ b c l h R a. rw (reported-bound measured b c l h) (bound-smallest (said b) (measured (said b)) l R a);
-        elsewhere = reported-elsewhere measured;
-        places = places;
+        accepts = by-definition (checkBy measured) _ accepts;
+        bounded = by-definition (checkBy measured) _ (λ b c l h. rw (reported-bound measured b c l h) (accepted-admissible measured b c l h));
+        smallest =
+            by-definition (checkBy measured) _
+            (λ b c l h R a. rw (reported-bound measured b c l h) (bound-smallest (said b) (measured (said b)) l R a));
+        elsewhere = by-definition (checkBy measured) _ (reported-elsewhere measured);
+        places = by-definition (checkBy measured) _ places;
       }

@@ -5,10 +5,12 @@ pub mod Refusals
 -- Demand 2
 pub mod Sound
 pub mod Accepted
+pub mod Admits
 pub mod Exact
-pub mod Tables
 -- Demand 3
+pub mod Grants
 pub mod Slots
 pub mod Promise
--- The empty programs
+-- One table, one book; the empty programs
+pub mod Tables
 pub mod Empty

@@ -1,43 +1,51 @@
 -- Demand 3, of the program that the definitions describe by any sound measure and rule of waiting, and so of every program that meets its
 -- contracts. Assumes nothing.
-use Prim.Native.Nat.{ℕ, _+_, _-_, _^_, _≤_, _<_}
+use Prim.Native.Nat.{ℕ, suc, _-_, _^_, _≤_, _<_}
 use mathlib.Core.Path.{_≡_, refl, sym, _∙_, ap, subst}
 use mathlib.Core.Bool.{false}
+use mathlib.Core.Logic.{⊎-elim}
 use native.Mathlib.Omega.{arith}
 use native.Mathlib.Nat.{div-le-self}
 use lib.ListN.{length, getD}
 use Rattle.trade.specs.Limits.{endOfClock}
 use Rattle.trade.specs.Bytes.{over}
 use Rattle.trade.specs.Facts.{Facts}
+use Rattle.trade.specs.Answers.{done}
 use Rattle.trade.specs.Conflict.{conflict}
 use Rattle.trade.specs.Bound.{Measure, measure, boundBy}
 use Rattle.trade.specs.Slot.{instanceAt, doneNow, nextStep, Waits, greedy, grantOf}
-use Rattle.trade.specs.Calls.{Advanced}
-use Rattle.trade.specs.Demands.{Program, Lent, Ready, ReadGrant, plannerBy, planner, grantAt, grant, sent, stepGrant, Counted, Granted, releaseOf, reported, Kept, Due, Demand3}
+use Rattle.trade.specs.Calls.{Checked, Started, Advanced, checkBy}
+use Rattle.trade.specs.declared.answer.Answer.{Answer}
+use Rattle.trade.specs.declared.clock.Slot.{Slot}
+use Rattle.trade.specs.declared.clock.Instance.{Instance}
+use Rattle.trade.specs.declared.clock.Step.{Step}
+use Rattle.trade.specs.declared.state.Grant.{Grant}
+use Rattle.trade.proofs.First.{lt-or-ge}
 use Rattle.trade.proofs.Order.{among-at, place-of}
-use Rattle.trade.proofs.Grants.{length-grant, grant-at, grant-says}
 use Rattle.trade.proofs.Valid.{Valid, same-flow}
 use Rattle.response.specs.Promise.{InOrder, RunGranted, RunKept, RunDue}
 use Rattle.response.proofs.Granted.{granted-below, granted-unfinished, granted-once, granted-apart}
 use Rattle.response.proofs.Released.{released-late, release-comes, released-apart, instance-released, instance-within, periodic-in-order}
 use Rattle.response.proofs.Due.{granted-in-one-slot, granted-due}
 use Rattle.response.proofs.Promise.{kept}
-use Rattle.promise.specs.Promise.{Meets, Keeps}
-use Rattle.promise.proofs.Meets.{by-meeting}
+use Rattle.response.proofs.Waiting.{bound-positive}
+use Rattle.promise.specs.Demands.{Program, Ran, RunBy, HasRun, Done, plannerBy, planner, grantAt, grant, stepGrant, Counted, Granted, releaseOf, lastSlot, reported, Kept, Due, Honoured, Demand3}
+use Rattle.promise.specs.Promise.{Meets}
+use Rattle.promise.proofs.Grants.{length-grant, grant-at, grant-says}
 use Rattle.promise.proofs.Sound.{Sound, greedy-sound}
 use Rattle.promise.proofs.Accepted.{accepted-valid, accepted-admissible, accepted-bounded, reported-bound}
-use Rattle.promise.proofs.Slots.{facts, due, run, goes, starts, in-slot, in-last-slot}
+use Rattle.promise.proofs.Slots.{facts, due, run, goes, made, areaAt, at, started, in-slot, past-clock}
 
 -- the flow of grant j of slot t
-abbrev flowAt : Waits → Lent → ℕ → ℕ → ℕ
-flowAt waits r t j = getD (goes waits r t) j 0
+abbrev flowAt : Waits → Ran → ℕ → ℕ → ℕ
+flowAt waits x t j = getD (goes waits x t) j 0
 
 -- its instance, and the next step of that
-abbrev instanceOf : Waits → Lent → ℕ → ℕ → ℕ
-instanceOf waits r t j = due r t .instance (flowAt waits r t j)
+abbrev instanceOf : Waits → Ran → ℕ → ℕ → Instance
+instanceOf waits x t j = record { 0 = due x t .instance (flowAt waits x t j) }
 
-abbrev nextOf : Waits → Lent → ℕ → ℕ → ℕ
-nextOf waits r t j = doneNow (due r t) (run waits r t) (flowAt waits r t j)
+abbrev nextOf : Waits → Ran → ℕ → ℕ → Step
+nextOf waits x t j = record { 0 = doneNow (due x t) (run waits x t) (flowAt waits x t j) }
 
 -- the number of an instance at any slot of the clock fits its four bytes
 instance-fits : (f : Facts) (t l : ℕ) → t < endOfClock → instanceAt f (f .phase) t l < 2 ^ 32
@@ -48,227 +56,241 @@ module _
     (measured : Facts → Measure)
     (waits : Waits)
     (sound : Sound measured waits)
-    (r : Lent)
-    (ready : Ready (plannerBy measured waits) r)
+    (x : Ran)
+    (accepted : Done (checkBy measured (x .book) .answer))
+    (ran : RunBy (plannerBy measured waits) x)
   where
-    abbrev program : Program
-    program = plannerBy measured waits
-
-    valid : Valid (facts r)
-    valid = accepted-valid measured (r .book) (ready .accepted)
+    valid : Valid (facts x)
+    valid = accepted-valid measured (x .book) accepted
 
     -- the releases of each flow come in order
-    order : (l : ℕ) → l < facts r .flows → InOrder (due r) l
-    order l l< = periodic-in-order (facts r) (facts r .phase) l (valid .records l l< .period .least)
+    order : (l : ℕ) → l < facts x .flows → InOrder (due x) l
+    order l l< = periodic-in-order (facts x) (facts x .phase) l (valid .records l l< .period .least)
 
-    -- a slot before the clock's end
-    module _ (t : ℕ) (clock : t < endOfClock) where
+    -- a slot that has been run is one of the clock's
+    run-clock : (t : Slot) → HasRun x t → t .0 < endOfClock
+    run-clock t h =
+        ⊎-elim (λ (clock : t .0 < endOfClock). clock)
+        (λ (past : endOfClock ≤ t .0).
+        absurd (omega (arith, h .done, ap (λ (a : Answer). a .code) (past-clock measured waits sound x accepted ran (t .0) (h .called) past))))
+        (lt-or-ge (t .0) endOfClock)
+
+    -- a slot that was called before the clock's end has been run
+    runs-clock : (t : Slot) → t .0 < x .count → t .0 < endOfClock → HasRun x t
+    runs-clock t h clock =
+        record { called = h; done = ap (λ (a : Advanced). a .answer .code) (in-slot measured waits sound x accepted ran (t .0) h clock) }
+
+    -- a slot that has been run
+    module _ (t : Slot) (has : HasRun x t) where
+      leaves :
+          x .advanced t
+          ≡ record {
+            answer = done (length (goes waits x (t .0)));
+            area = areaAt waits x (suc (t .0));
+            grants = over (made waits x (t .0)) (x .grants t);
+          }
+      leaves = in-slot measured waits sound x accepted ran (t .0) (has .called) (run-clock t has)
+
       -- the grants that it counts are those of the flows that go
-      counted-goes : (j : ℕ) → Counted program r t j → j < length (goes waits r t)
-      counted-goes j c = rw (in-slot measured waits sound r ready t clock) at c
+      counted-goes : (j : ℕ) → j < x .advanced t .answer .number → j < length (goes waits x (t .0))
+      counted-goes j c = rw leaves at c
 
-      goes-counted : (j : ℕ) → j < length (goes waits r t) → Counted program r t j
-      goes-counted j h = rw (in-slot measured waits sound r ready t clock) h
+      goes-counted : (j : ℕ) → j < length (goes waits x (t .0)) → Counted x t j
+      goes-counted j h = record { run = has; below = rw leaves h }
 
       -- a flow that goes is one of the book's
-      goes-listed : (j : ℕ) → j < length (goes waits r t) → flowAt waits r t j < facts r .flows
+      goes-listed : (j : ℕ) → j < length (goes waits x (t .0)) → flowAt waits x (t .0) j < facts x .flows
       goes-listed j h =
-          granted-below waits (facts r) (due r t) (run waits r t) (flowAt waits r t j) (among-at (goes waits r t) j h)
+          granted-below waits (facts x) (due x (t .0)) (run waits x (t .0)) (flowAt waits x (t .0) j) (among-at (goes waits x (t .0)) j h)
 
       -- grant j of the slot is the next step of the j-th flow that goes
       grant-is :
           (j : ℕ)
-          → j < length (goes waits r t)
-          → grant program r t j ≡ stepGrant (facts r) (flowAt waits r t j) (instanceOf waits r t j) (nextOf waits r t j)
+          → j < length (goes waits x (t .0))
+          → grant x t j ≡ stepGrant (facts x) (flowAt waits x (t .0) j) (instanceOf waits x (t .0) j) (nextOf waits x (t .0) j)
       unfolding over
       grant-is j h =
-          let i : ℕ = flowAt waits r t j in
-          ap (λ (a : Advanced). grantAt (a .grants) j) (in-slot measured waits sound r ready t clock)
-          ∙ grant-at (grantOf (facts r) (due r t) (run waits r t)) (length-grant (facts r) (due r t) (run waits r t)) (goes waits r t) _ j h
-          ∙ grant-says (facts r) (due r t) (run waits r t) i
+          let i : ℕ = flowAt waits x (t .0) j in
+          ap (λ (a : Advanced). grantAt (a .grants) j) leaves
+          ∙ grant-at (grantOf (facts x) (due x (t .0)) (run waits x (t .0))) (length-grant (facts x) (due x (t .0)) (run waits x (t .0))) (goes waits x (t .0)) _ j h
+          ∙ grant-says (facts x) (due x (t .0)) (run waits x (t .0)) i
           (omega (arith, valid .records i (goes-listed j h) .id .most))
-          (instance-fits (facts r) t i clock)
+          (instance-fits (facts x) (t .0) i (run-clock t has))
 
       -- a step that the run grants is granted
-      run-granted : (l v s : ℕ) → RunGranted waits (facts r) (due r) l v s t → Granted program r l v s t
+      run-granted : (l v s : ℕ) → RunGranted waits (facts x) (due x) l v s (t .0) → Granted x l (record { 0 = v }) (record { 0 = s }) t
       run-granted l v s g =
-          let (j, h, e) = place-of (goes waits r t) l (g .goes) in
+          let (j, h, e) = place-of (goes waits x (t .0)) l (g .goes) in
           (j, goes-counted j h, grant-is j h ∙ rw (e, g .instance, g .step))
 
       -- and what is granted, the run grants
       granted-run :
           (j : ℕ)
-          → j < length (goes waits r t)
-          → RunGranted waits (facts r) (due r) (flowAt waits r t j) (instanceOf waits r t j) (nextOf waits r t j) t
-      granted-run j h = record { goes = among-at (goes waits r t) j h; step = refl; instance = refl }
+          → j < length (goes waits x (t .0))
+          → RunGranted waits (facts x) (due x) (flowAt waits x (t .0) j) (instanceOf waits x (t .0) j .0) (nextOf waits x (t .0) j .0) (t .0)
+      granted-run j h = record { goes = among-at (goes waits x (t .0)) j h; step = refl; instance = refl }
 
       -- no two grants of a slot conflict
       slot-free :
           (i j : ℕ)
           → i < j
-          → Counted program r t j
-          → conflict (facts r .disturbs) (sent (grant program r t i)) (sent (grant program r t j)) ≡ false
-      unfolding sent stepGrant nextStep
-      slot-free i j i< c =
-          let j< : j < length (goes waits r t) = counted-goes j c in
+          → j < length (goes waits x (t .0))
+          → conflict (facts x .disturbs) (grant x t i .transmission) (grant x t j .transmission) ≡ false
+      unfolding stepGrant nextStep
+      slot-free i j i< j< =
           rw (grant-is i (omega arith), grant-is j j<)
-          (granted-apart waits (facts r) (due r t) (run waits r t) (sound .refuses) i j i< j<)
+          (granted-apart waits (facts x) (due x (t .0)) (run waits x (t .0)) (sound .refuses) i j i< j<)
 
     -- each grant is due
-    slot-due : (t : ℕ) → t < endOfClock → (j : ℕ) → Counted program r t j → Due program r t j
+    slot-due : (t : Slot) (j : ℕ) → Counted x t j → Due x t j
     unfolding releaseOf
-    slot-due t clock j c =
-        let f : Facts = facts r in
-        let h : j < length (goes waits r t) = counted-goes t clock j c in
-        let l : ℕ = flowAt waits r t j in
-        let l< : l < f .flows = goes-listed t clock j h in
-        let now : RunDue waits f (due r) l t = granted-due waits f (due r) l (order l l<) t (among-at (goes waits r t) j h) in
+    slot-due t j c =
+        let f : Facts = facts x in
+        let h : j < length (goes waits x (t .0)) = counted-goes t (c .run) j (c .below) in
+        let l : ℕ = flowAt waits x (t .0) j in
+        let l< : l < f .flows = goes-listed t (c .run) j h in
+        let now : RunDue waits f (due x) l (t .0) = granted-due waits f (due x) l (order l l<) (t .0) (among-at (goes waits x (t .0)) j h) in
         record {
           flow = l;
-          instance = instanceOf waits r t j;
-          step = nextOf waits r t j;
+          instance = instanceOf waits x (t .0) j;
+          step = nextOf waits x (t .0) j;
           listed = l<;
           released =
-              instance-released f (f .phase) l t (omega (arith, now .past, released-late f (f .phase) l (now .release) (now .released)));
-          unfinished = granted-unfinished waits f (due r t) (run waits r t) l (among-at (goes waits r t) j h);
-          grants = grant-is t clock j h;
+              instance-released f (f .phase) l (t .0) (omega (arith, now .past, released-late f (f .phase) l (now .release) (now .released)));
+          unfinished = granted-unfinished waits f (due x (t .0)) (run waits x (t .0)) l (among-at (goes waits x (t .0)) j h);
+          grants = grant-is t (c .run) j h;
           next =
               λ s s<.
-              let (u, from, before, g) = now .next s s< in
-              (u, before, run-granted u (omega arith) l (instanceOf waits r t j) s g);
+              let (u, from, before, g) = now .next (s .0) s< in (
+                at u,
+                before,
+                run-granted (at u) (runs-clock (at u) (omega (arith, c .run .called)) (omega (arith, run-clock t (c .run)))) l
+                    (instanceOf waits x (t .0) j .0) (s .0) g,
+              );
         }
 
-    -- each instance is kept within the reported bound
+    -- the reported bound of a flow is its bound: at least 1, and within its deadline
+    reports : (l : ℕ) → l < facts x .flows → reported (checkBy measured (x .book)) l ≡ boundBy (facts x) (measured (facts x)) l
+    reports = reported-bound measured (x .book) accepted
+
+    deadline-met : (l : ℕ) → l < facts x .flows → reported (checkBy measured (x .book)) l ≤ facts x .deadline l
+    deadline-met l l< = omega (arith, reports l l<, accepted-admissible measured (x .book) accepted l l< .deadline)
+
+    bound-least : (l : ℕ) → l < facts x .flows → 1 ≤ reported (checkBy measured (x .book)) l
+    bound-least l l< =
+        omega (arith, reports l l<, bound-positive (accepted-bounded measured (x .book) accepted (sound .carries)) l l<)
+
+    -- each instance is kept within the reported bound, if its last slot by that bound has been run
     instance-kept :
-        (l v : ℕ)
-        → l < facts r .flows
-        → releaseOf (facts r) l v + reported program (r .book) l ≤ endOfClock
-        → Kept program r l v (reported program (r .book) l)
+        (l : ℕ) (v : Instance)
+        → l < facts x .flows
+        → HasRun x (lastSlot (facts x) l v (reported (checkBy measured (x .book)) l))
+        → Kept x l v (reported (checkBy measured (x .book)) l)
     unfolding releaseOf
-    instance-kept l v l< ends =
-        let f : Facts = facts r in
+    instance-kept l v l< has =
+        let f : Facts = facts x in
         let R : ℕ → ℕ = boundBy f (measured f) in
-        let R≡ : reported program (r .book) l ≡ R l = reported-bound measured (r .book) (ready .accepted) l l< in
         let release : ℕ = releaseOf f l v in
-        let number : instanceAt f (f .phase) release l ≡ v
-        = instance-within f (f .phase) l (valid .records l l< .period .least) v release (omega arith)
+        let number : instanceAt f (f .phase) release l ≡ v .0
+        = instance-within f (f .phase) l (valid .records l l< .period .least) (v .0) release (omega arith)
         (omega (arith, valid .records l l< .period .least)) in
-        let k : RunKept waits f (due r) l release (R l)
-        = kept waits f (due r) (measured f) (sound .covers f) (λ h h<. released-apart f (f .phase) h) R
-        (accepted-bounded measured (r .book) (ready .accepted) (sound .carries)) l release l< (order l l<) (release-comes f (f .phase) l v) in
+        let k : RunKept waits f (due x) l release (R l)
+        = kept waits f (due x) (measured f) (sound .covers f) (λ h h<. released-apart f (f .phase) h) R
+        (accepted-bounded measured (x .book) accepted (sound .carries)) l release l< (order l l<) (release-comes f (f .phase) l (v .0)) in
+        let past : (s : Step) → s .0 < f .len l → k .slot (s .0) ≤ lastSlot f l v (reported (checkBy measured (x .book)) l) .0
+        = λ s s<. omega (arith, k .within (s .0) s<, reports l l<) in
         record {
-          slot = k .slot;
-          granted = λ s s<. run-granted (k .slot s) (omega (arith, k .within s s<)) l v s (rw number at (k .granted s s<));
-          released = k .released;
-          within = λ s s<. omega (arith, k .within s s<);
-          ordered = k .ordered;
+          slot = λ s. at (k .slot (s .0));
+          granted =
+              λ s s<.
+              run-granted (at (k .slot (s .0)))
+              (runs-clock (at (k .slot (s .0))) (omega (arith, past s s<, has .called)) (omega (arith, past s s<, run-clock _ has)))
+              l (v .0) (s .0) (rw number at (k .granted (s .0) s<));
+          released = λ s s<. k .released (s .0) s<;
+          within = λ s s<. omega (arith, k .within (s .0) s<, reports l l<);
+          in-time = λ s s<. omega (arith, k .within (s .0) s<, reports l l<, deadline-met l l<);
+          ordered = λ s u s< u<. k .ordered (s .0) (u .0) s< u<;
         }
 
     -- no flow, instance and step is granted twice
     granted-once-only :
-        (t u i j : ℕ)
-        → t < endOfClock
-        → u < endOfClock
-        → Counted program r t i
-        → Counted program r u j
-        → grant program r t i .id ≡ grant program r u j .id
-        → grant program r t i .instance ≡ grant program r u j .instance
-        → grant program r t i .step ≡ grant program r u j .step
+        (t u : Slot) (i j : ℕ)
+        → Counted x t i
+        → Counted x u j
+        → grant x t i .id ≡ grant x u j .id
+        → grant x t i .instance ≡ grant x u j .instance
+        → grant x t i .step ≡ grant x u j .step
         → (t ≡ u) × (i ≡ j)
     unfolding stepGrant
-    granted-once-only t u i j t< u< ci cj id instance step =
-        let f : Facts = facts r in
-        let l : ℕ = flowAt waits r t i in
-        let l< : l < f .flows = goes-listed t t< i hi in
-        let same : l ≡ flowAt waits r u j
-        = same-flow f valid l (flowAt waits r u j) l< (goes-listed u u< j hj) (reads (λ g. g .id) id) in
-        let again : RunGranted waits f (due r) l (instanceOf waits r t i) (nextOf waits r t i) u
+    granted-once-only t u i j ci cj id instance step =
+        let f : Facts = facts x in
+        let l : ℕ = flowAt waits x (t .0) i in
+        let l< : l < f .flows = goes-listed t (ci .run) i hi in
+        let same : l ≡ flowAt waits x (u .0) j
+        = same-flow f valid l (flowAt waits x (u .0) j) l< (goes-listed u (cj .run) j hj) (reads (λ g. g .id) id) in
+        let again : RunGranted waits f (due x) l (instanceOf waits x (t .0) i .0) (nextOf waits x (t .0) i .0) (u .0)
         = record {
-          goes = rw same (among-at (goes waits r u) j hj);
-          step = ap (doneNow (due r u) (run waits r u)) same ∙ sym (reads (λ g. g .step) step);
-          instance = ap (due r u .instance) same ∙ sym (reads (λ g. g .instance) instance);
+          goes = rw same (among-at (goes waits x (u .0)) j hj);
+          step = ap (doneNow (due x (u .0)) (run waits x (u .0))) same ∙ sym (ap (λ (s : Step). s .0) (reads (λ g. g .step) step));
+          instance = ap (due x (u .0) .instance) same ∙ sym (ap (λ (v : Instance). v .0) (reads (λ g. g .instance) instance));
         } in
-        let t≡u : t ≡ u
-        = granted-in-one-slot waits f (due r) l (order l l<) (instanceOf waits r t i) (nextOf waits r t i) t u (granted-run t t< i hi) again in (
-          t≡u,
-          granted-once waits f (due r u) (run waits r u) i j (subst (λ (x : ℕ). i < length (goes waits r x)) t≡u hi) hj
-              (subst (λ (x : ℕ). flowAt waits r x i ≡ flowAt waits r u j) t≡u same),
+        let t≡u : t .0 ≡ u .0
+        = granted-in-one-slot waits f (due x) l (order l l<) (instanceOf waits x (t .0) i .0) (nextOf waits x (t .0) i .0) (t .0) (u .0)
+        (granted-run t (ci .run) i hi) again in (
+          ap at t≡u,
+          granted-once waits f (due x (u .0)) (run waits x (u .0)) i j (subst (λ (y : ℕ). i < length (goes waits x y)) t≡u hi) hj
+              (subst (λ (y : ℕ). flowAt waits x y i ≡ flowAt waits x (u .0) j) t≡u same),
         )
       where
-        hi : i < length (goes waits r t)
-        hi = counted-goes t t< i ci
+        hi : i < length (goes waits x (t .0))
+        hi = counted-goes t (ci .run) i (ci .below)
 
-        hj : j < length (goes waits r u)
-        hj = counted-goes u u< j cj
+        hj : j < length (goes waits x (u .0))
+        hj = counted-goes u (cj .run) j (cj .below)
 
         reads :
-            (read : ReadGrant → ℕ)
-            → read (grant program r t i) ≡ read (grant program r u j)
-            → read (stepGrant (facts r) (flowAt waits r t i) (instanceOf waits r t i) (nextOf waits r t i))
-            ≡ read (stepGrant (facts r) (flowAt waits r u j) (instanceOf waits r u j) (nextOf waits r u j))
-        reads read e = sym (ap read (grant-is t t< i hi)) ∙ e ∙ ap read (grant-is u u< j hj)
+            {A : Type 0} (read : Grant → A)
+            → read (grant x t i) ≡ read (grant x u j)
+            → read (stepGrant (facts x) (flowAt waits x (t .0) i) (instanceOf waits x (t .0) i) (nextOf waits x (t .0) i))
+            ≡ read (stepGrant (facts x) (flowAt waits x (u .0) j) (instanceOf waits x (u .0) j) (nextOf waits x (u .0) j))
+        reads read e = sym (ap read (grant-is t (ci .run) i hi)) ∙ e ∙ ap read (grant-is u (cj .run) j hj)
+
+    -- so all that is owed of the run is kept
+    pub run-honoured : Honoured x (reported (checkBy measured (x .book)))
+    run-honoured =
+        record {
+          starts = ap (λ (s : Started). s .answer .code) (started measured waits sound x accepted ran);
+          runs = runs-clock;
+          ends = λ t h past. past-clock measured waits sound x accepted ran (t .0) h past;
+          free = λ t i j i< c. slot-free t (c .run) i j i< (counted-goes t (c .run) j (c .below));
+          -- the last slot by the bound is not past the deadline slot
+          kept =
+              λ l v l< has.
+              instance-kept l v l<
+              (runs-clock _ (omega (arith, has .called, deadline-met l l<)) (omega (arith, run-clock _ has, deadline-met l l<)));
+          kept-early = instance-kept;
+          once = granted-once-only;
+          due = slot-due;
+        }
 
 -- DEMAND 3 is kept by the program that the definitions describe, by any sound measure and rule of waiting,
 pub sound-keeps-demand-3 : (measured : Facts → Measure) (waits : Waits) → Sound measured waits → Demand3 (plannerBy measured waits)
-sound-keeps-demand-3 measured waits sound =
-    record {
-      starts = starts measured waits sound;
-      runs = λ r ready t clock. ap (λ (a : Advanced). a .answer .code) (in-slot measured waits sound r ready t clock);
-      ends = in-last-slot measured waits sound;
-      free = slot-free measured waits sound;
-      kept = instance-kept measured waits sound;
-      once = granted-once-only measured waits sound;
-      due = slot-due measured waits sound;
-    }
+sound-keeps-demand-3 measured waits sound x checked e accepted ran =
+    subst (λ (c : Checked). Honoured x (reported c)) (sym e) (run-honoured measured waits sound x (rw e at accepted) ran)
 
 pub planner-keeps-demand-3 : Demand3 planner
 planner-keeps-demand-3 = sound-keeps-demand-3 measure greedy greedy-sound
 
--- and so by every program that meets its contracts
+-- and so by every program that meets its contracts: its run is a run of that one
+pub by-planner : (p : Program) → Meets p → (x : Ran) → RunBy p x → RunBy planner x
+by-planner p m x ran =
+    record {
+      area = ran .area;
+      grants = ran .grants;
+      starts = m .starts _ _ (ran .starts);
+      advances = λ t h. m .advances _ _ (ran .advances t h);
+    }
+
 pub keeps-demand-3 : (p : Program) → Meets p → Demand3 p
-keeps-demand-3 = by-meeting Demand3 planner-keeps-demand-3
-
--- an instance is kept within any number of slots that is at least the reported bound and ends within the clock
-kept-within :
-    (r : Lent)
-    → Ready planner r
-    → (l v D : ℕ)
-    → l < facts r .flows
-    → reported planner (r .book) l ≤ D
-    → releaseOf (facts r) l v + D ≤ endOfClock
-    → Kept planner r l v D
-kept-within r ready l v D l< R≤ ends =
-    let k : Kept planner r l v (reported planner (r .book) l) = planner-keeps-demand-3 .kept r ready l v l< (omega arith) in
-    record {
-      slot = k .slot;
-      granted = k .granted;
-      released = k .released;
-      within = λ s s<. omega (arith, k .within s s<);
-      ordered = k .ordered;
-    }
-
--- THE PROMISE, which demand 3 makes
-planner-keeps : (r : Lent) → Ready planner r → Keeps planner r
-planner-keeps r ready =
-    record {
-      runs = λ t clock. planner-keeps-demand-3 .runs r ready t (omega arith);
-      in-bound = λ l v l< ends. kept-within r ready l v _ l< (omega arith) (omega arith);
-      in-time =
-          λ l v l< ends.
-          kept-within r ready l v _ l<
-          (omega (
-            arith,
-            reported-bound measure (r .book) (ready .accepted) l l<,
-            accepted-admissible measure (r .book) (ready .accepted) l l< .deadline,
-          ))
-          (omega arith);
-      once =
-          λ l v s t u t< u< (i, ci, gi) (j, cj, gj).
-          let same : grant planner r t i ≡ grant planner r u j = gi ∙ sym gj in
-          planner-keeps-demand-3 .once r ready t u i j t< u< ci cj (ap (λ (g : ReadGrant). g .id) same)
-          (ap (λ (g : ReadGrant). g .instance) same) (ap (λ (g : ReadGrant). g .step) same)
-          .0;
-    }
-
-pub keeps : (p : Program) → Meets p → (r : Lent) → Ready p r → Keeps p r
-keeps = by-meeting (λ p. (r : Lent) → Ready p r → Keeps p r) planner-keeps
+keeps-demand-3 p m x checked c accepted ran =
+    planner-keeps-demand-3 x checked (m .checks _ _ c) accepted (by-planner p m x ran)

@@ -1,32 +1,49 @@
 -- Demand 1, of the program that the definitions describe and so of every program that meets its contracts. Assumes nothing.
 use mathlib.Core.Path.{refl}
-use Rattle.trade.specs.Calls.{readOf, checkBy, writeOf, addOf, removeOf, startBy, advanceBy}
-use Rattle.trade.specs.Demands.{Program, planner, Demand1}
+use Rattle.trade.specs.Calls.{readOf, checkOf, checkBy, writeOf, addOf, removeOf, startOf, startBy, advanceOf, advanceBy}
+use Rattle.promise.specs.Demands.{Program, planner, Demand1}
 use Rattle.trade.proofs.Answers.{refused-second}
 use Rattle.promise.specs.Promise.{Meets}
-use Rattle.promise.proofs.Meets.{by-meeting}
+use Rattle.promise.proofs.Meets.{by-definition, by-meeting}
 
 -- DEMAND 1 is kept by the program that the definitions describe,
 pub planner-keeps-demand-1 : Demand1 planner
 unfolding readOf checkBy writeOf addOf removeOf startBy advanceBy
 planner-keeps-demand-1 =
     record {
-      reads = λ b. refl;
-      checks = λ b. refl;
-      writes = λ w. refl;
-      adds = λ a. refl;
-      removes = λ r. refl;
-      starts = λ s. refl;
-      advances = λ a. refl;
-      read-refused = λ b n. refused-second _ _ _ n;
-      check-refused = λ b n. refused-second _ _ _ n;
-      write-refused = λ w n. refused-second _ _ _ n;
-      add-refused = λ a n. refused-second _ _ _ n;
-      remove-refused = λ r n. refused-second _ _ _ n;
-      start-refused = λ s n. refused-second _ _ _ n;
-      advance-refused = λ a n. (refused-second _ _ _ n, refused-second _ _ _ n);
+      reads = by-definition readOf _ (λ b. refl);
+      checks = by-definition checkOf _ (λ b. refl);
+      writes = by-definition writeOf _ (λ w. refl);
+      adds = by-definition addOf _ (λ a. refl);
+      removes = by-definition removeOf _ (λ r. refl);
+      starts = by-definition startOf _ (λ s. refl);
+      advances = by-definition advanceOf _ (λ a. refl);
+      read-refused = by-definition readOf _ (λ b n. refused-second _ _ _ n);
+      check-refused = by-definition checkOf _ (λ b n. refused-second _ _ _ n);
+      write-refused = by-definition writeOf _ (λ w n. refused-second _ _ _ n);
+      add-refused = by-definition addOf _ (λ a n. refused-second _ _ _ n);
+      remove-refused = by-definition removeOf _ (λ r n. refused-second _ _ _ n);
+      start-refused = by-definition startOf _ (λ s n. refused-second _ _ _ n);
+      advance-refused = by-definition advanceOf _ (λ a n. (refused-second _ _ _ n, refused-second _ _ _ n));
     }
 
 -- and so by every program that meets its contracts
 pub keeps-demand-1 : (p : Program) → Meets p → Demand1 p
-keeps-demand-1 = by-meeting Demand1 planner-keeps-demand-1
+keeps-demand-1 p m =
+    let d : Demand1 planner = planner-keeps-demand-1 in
+    record {
+      reads = by-meeting (m .reads) (d .reads);
+      checks = by-meeting (m .checks) (d .checks);
+      writes = by-meeting (m .writes) (d .writes);
+      adds = by-meeting (m .adds) (d .adds);
+      removes = by-meeting (m .removes) (d .removes);
+      starts = by-meeting (m .starts) (d .starts);
+      advances = by-meeting (m .advances) (d .advances);
+      read-refused = by-meeting (m .reads) (d .read-refused);
+      check-refused = by-meeting (m .checks) (d .check-refused);
+      write-refused = by-meeting (m .writes) (d .write-refused);
+      add-refused = by-meeting (m .adds) (d .add-refused);
+      remove-refused = by-meeting (m .removes) (d .remove-refused);
+      start-refused = by-meeting (m .starts) (d .start-refused);
+      advance-refused = by-meeting (m .advances) (d .advance-refused);
+    }

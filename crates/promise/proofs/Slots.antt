@@ -3,6 +3,7 @@
 use Prim.Native.Nat.{ℕ, zero, suc, _*_, _≤_, _<_}
 use mathlib.Core.Path.{_≡_, refl, sym, _∙_, ap, subst}
 use mathlib.Core.Bool.{false}
+use mathlib.Core.Logic.{⊎-elim}
 use mathlib.Core.List.{List, [], _∷_, _++_, append-assoc}
 use native.Mathlib.Omega.{arith}
 use lib.Dec.{eqb, ltb}
@@ -17,9 +18,11 @@ use Rattle.trade.specs.Bound.{Measure, boundBy}
 use Rattle.trade.specs.Slot.{State, Releases, periodic, releasesOf, Waits, grantedBy, nextStateBy, runBy, grantOf, grantsOf}
 use Rattle.trade.specs.Area.{stateIn, areaOf}
 use Rattle.trade.specs.SlotCodes.{badPlace, code10, code12, overrun, code11}
-use Rattle.trade.specs.Calls.{Starting, Advancing, Advanced, bookRules, startAnswerBy, startArea, startBy, flowsGrantedBy, advanceAnswerBy, nextAreaBy, grantsInBy, advanceBy}
-use Rattle.trade.specs.Demands.{Done, Lent, Ready, plannerBy, areaBefore, inSlot}
+use Rattle.trade.specs.Calls.{Starting, Advancing, Started, Advanced, bookRules, startAnswerBy, startArea, startBy, checkBy, flowsGrantedBy, advanceAnswerBy, nextAreaBy, grantsInBy, advanceBy}
+use Rattle.promise.specs.Demands.{Done, Ran, RunBy, plannerBy, areaBefore}
 use Rattle.trade.specs.declared.answer.Answer.{Answer}
+use Rattle.trade.specs.declared.clock.Slot.{Slot}
+use Rattle.trade.proofs.First.{lt-or-ge}
 use Rattle.trade.proofs.Bytes.{length-over, over-over}
 use Rattle.trade.proofs.Answers.{Passed, passed-none, passed-more, passed-append, passed-on, passed-done, passed-refused, givenFirst-none, given-false, given-true}
 use Rattle.trade.proofs.Calls.{code13-passes}
@@ -34,33 +37,37 @@ use Rattle.response.proofs.Promise.{never-overrun}
 use Rattle.promise.proofs.Sound.{Sound}
 use Rattle.promise.proofs.Accepted.{check-passed, book-passed, accepted-valid, accepted-bounded}
 
--- what the lent book says, and what is due in each slot
-abbrev pub facts : Lent → Facts
-facts r = said (r .book)
+-- what the book says, and what is due in each slot
+abbrev pub facts : Ran → Facts
+facts x = said (x .book)
 
-abbrev pub due : Lent → ℕ → Releases
-due r = periodic (facts r) (facts r .phase)
+abbrev pub due : Ran → ℕ → Releases
+due x = periodic (facts x) (facts x .phase)
 
 -- its run after t slots by a rule of waiting, and the flows granted in slot t
-abbrev pub run : Waits → Lent → ℕ → State
-run waits r t = runBy waits (facts r) (due r) t
+abbrev pub run : Waits → Ran → ℕ → State
+run waits x t = runBy waits (facts x) (due x) t
 
-abbrev pub goes : Waits → Lent → ℕ → List ℕ
-goes waits r t = grantedBy waits (facts r) (due r t) (run waits r t)
+abbrev pub goes : Waits → Ran → ℕ → List ℕ
+goes waits x t = grantedBy waits (facts x) (due x t) (run waits x t)
 
 -- the bytes of their grants
-abbrev pub made : Waits → Lent → ℕ → List ℕ
-made waits r t = grantsOf (grantOf (facts r) (due r t) (run waits r t)) (goes waits r t)
+abbrev pub made : Waits → Ran → ℕ → List ℕ
+made waits x t = grantsOf (grantOf (facts x) (due x t) (run waits x t)) (goes waits x t)
 
 -- the area that holds the run after t slots, the run that is read back of it, and the advance that is handed it
-unfoldable pub areaAt : Waits → Lent → ℕ → List ℕ
-areaAt waits r t = over (areaOf (facts r .flows) (run waits r t)) (r .area)
+unfoldable pub areaAt : Waits → Ran → ℕ → List ℕ
+areaAt waits x t = over (areaOf (facts x .flows) (run waits x t)) (x .area)
 
-abbrev stateAt : Waits → Lent → ℕ → State
-stateAt waits r t = stateIn (areaAt waits r t)
+abbrev stateAt : Waits → Ran → ℕ → State
+stateAt waits x t = stateIn (areaAt waits x t)
 
-abbrev pub slotAt : Waits → Lent → ℕ → Advancing
-slotAt waits r t = record { book = r .book; area = areaAt waits r t; grants = r .grants t }
+abbrev pub slotAt : Waits → Ran → ℕ → List ℕ → Advancing
+slotAt waits x t lent = record { book = x .book; area = areaAt waits x t; grants = lent }
+
+-- the slot of a number
+abbrev pub at : ℕ → Slot
+at t = record { 0 = t }
 
 -- the rules of an advance: those before code 12, and those from it on
 abbrev ruleOf : (Facts → Releases → State → Answer) → Advancing → Answer
@@ -87,222 +94,249 @@ module _
     (measured : Facts → Measure)
     (waits : Waits)
     (sound : Sound measured waits)
-    (r : Lent)
-    (ready : Ready (plannerBy measured waits) r)
+    (x : Ran)
+    (accepted : Done (checkBy measured (x .book) .answer))
+    (ran : RunBy (plannerBy measured waits) x)
   where
-    valid : Valid (facts r)
-    valid = accepted-valid measured (r .book) (ready .accepted)
+    valid : Valid (facts x)
+    valid = accepted-valid measured (x .book) accepted
 
-    self : Alike (facts r .flows) (facts r) (facts r)
-    self = alike-self (facts r .flows) (facts r)
+    self : Alike (facts x .flows) (facts x) (facts x)
+    self = alike-self (facts x .flows) (facts x)
 
     -- START is done
-    start-done : startAnswerBy measured (record { book = r .book; area = r .area }) ≡ done 0
+    start-done : startAnswerBy measured (record { book = x .book; area = x .area }) ≡ done 0
     unfolding startAnswerBy
     start-done =
         passed-done noNumber
-        (passed-append (passed-on (λ (s : Starting). s .book) (check-passed measured (r .book) (ready .accepted)))
-        (passed-more (code13-passes areaBytes (r .area) (ready .area)) passed-none))
+        (passed-append (passed-on (λ (s : Starting). s .book) (check-passed measured (x .book) accepted))
+        (passed-more (code13-passes areaBytes (x .area) (ran .area)) passed-none))
 
     -- a slot up to the clock's end, whose advance is handed the run after t slots
     module _ (t : ℕ) (clock : t ≤ endOfClock) where
       -- what it reads back of the area
-      slot-abreast : Abreast (facts r .flows) (stateAt waits r t) (run waits r t)
+      slot-abreast : Abreast (facts x .flows) (stateAt waits x t) (run waits x t)
       unfolding areaAt
       slot-abreast =
-          area-abreast (facts r .flows) (run waits r t) (r .area) (valid .flows) (omega (arith, run-slot waits (facts r) (due r) t))
+          area-abreast (facts x .flows) (run waits x t) (x .area) (valid .flows) (omega (arith, run-slot waits (facts x) (due x) t))
 
-      slot-level : Level (facts r .flows) (due r t) (due r t) (stateAt waits r t) (run waits r t)
-      slot-level = level-same (facts r .flows) (due r t) (stateAt waits r t) (run waits r t) slot-abreast
+      slot-level : Level (facts x .flows) (due x t) (due x t) (stateAt waits x t) (run waits x t)
+      slot-level = level-same (facts x .flows) (due x t) (stateAt waits x t) (run waits x t) slot-abreast
 
-      slot-read : stateAt waits r t .slot ≡ t
-      slot-read = slot-abreast .slot ∙ run-slot waits (facts r) (due r) t
+      slot-read : stateAt waits x t .slot ≡ t
+      slot-read = slot-abreast .slot ∙ run-slot waits (facts x) (due x) t
 
       -- what is due in it
-      slot-releases : releasesOf (facts r) (stateAt waits r t) ≡ due r t
-      slot-releases = ap (due r) slot-read
+      slot-releases : releasesOf (facts x) (stateAt waits x t) ≡ due x t
+      slot-releases = ap (due x) slot-read
 
       -- code 10 passes: no flow has done more than its plan, each is idle until its first release, and unused places are 0
-      good-place : (i : ℕ) → i < facts r .flows → badPlace (facts r) (due r t) (stateAt waits r t) i ≡ false
+      good-place : (i : ℕ) → i < facts x .flows → badPlace (facts x) (due x t) (stateAt waits x t) i ≡ false
       unfolding badPlace
       good-place i h =
-          let order = periodic-in-order (facts r) (facts r .phase) i (valid .records i h .period .least) in
+          let order = periodic-in-order (facts x) (facts x .phase) i (valid .records i h .period .least) in
           rw (
-            lt-ltb i (facts r .flows) h,
+            lt-ltb i (facts x .flows) h,
             slot-abreast .done i h,
-            le-ltb (facts r .len i) (run waits r t .done i) (run-within waits (facts r) (due r) t i),
+            le-ltb (facts x .len i) (run waits x t .done i) (run-within waits (facts x) (due x) t i),
           )
-          (by-test (ltb (facts r .phase i) t) (λ begun. rw begun)
+          (by-test (ltb (facts x .phase i) t) (λ begun. rw begun)
           (λ early.
           rw (
             early,
-            eq-eqb (run waits r t .done i) (facts r .len i) (run-idle waits (facts r) (due r) i order t early),
+            eq-eqb (run waits x t .done i) (facts x .len i) (run-idle waits (facts x) (due x) i order t early),
           )))
 
-      good-unused : (i : ℕ) → i < mostFlows → facts r .flows ≤ i → badPlace (facts r) (due r t) (stateAt waits r t) i ≡ false
+      good-unused : (i : ℕ) → i < mostFlows → facts x .flows ≤ i → badPlace (facts x) (due x t) (stateAt waits x t) i ≡ false
       unfolding badPlace areaAt
-      good-unused i h u = rw (le-ltb i (facts r .flows) u, area-unused (facts r .flows) (run waits r t) (r .area) i h u)
+      good-unused i h u = rw (le-ltb i (facts x .flows) u, area-unused (facts x .flows) (run waits x t) (x .area) i h u)
 
-      code10-passes : code10 (facts r) (due r t) (stateAt waits r t) .code ≡ 0
+      code10-passes : code10 (facts x) (due x t) (stateAt waits x t) .code ≡ 0
       unfolding code10
       code10-passes =
-          rw (le-ltb endOfClock (stateAt waits r t .slot) (omega (arith, slot-read)))
+          rw (le-ltb endOfClock (stateAt waits x t .slot) (omega (arith, slot-read)))
           (ap (λ (a : Answer). a .code)
-          (givenFirst-none 10 (badPlace (facts r) (due r t) (stateAt waits r t)) mostFlows
-          (λ i h. by-order (facts r .flows) i (good-unused i h) (good-place i))))
+          (givenFirst-none 10 (badPlace (facts x) (due x t) (stateAt waits x t)) mostFlows
+          (λ i h. by-order (facts x .flows) i (good-unused i h) (good-place i))))
 
       -- code 11 passes: no release meets an unfinished instance
-      code11-passes : code11 (facts r) (due r t) (stateAt waits r t) .code ≡ 0
+      code11-passes : code11 (facts x) (due x t) (stateAt waits x t) .code ≡ 0
       unfolding code11 overrun
       code11-passes =
           ap (λ (a : Answer). a .code)
-          (givenFirst-none 11 (overrun (facts r) (due r t) (stateAt waits r t)) (facts r .flows)
+          (givenFirst-none 11 (overrun (facts x) (due x t) (stateAt waits x t)) (facts x .flows)
           (λ i h.
           rw (slot-abreast .done i h)
-          (by-test (due r t .due i)
+          (by-test (due x t .due i)
           (λ now.
           rw (
             now,
-            never-overrun waits (facts r) (due r) (measured (facts r)) (sound .covers (facts r))
-                (λ l l<. released-apart (facts r) (facts r .phase) l) (boundBy (facts r) (measured (facts r)))
-                (accepted-bounded measured (r .book) (ready .accepted) (sound .carries)) t i h now,
-            le-ltb (facts r .len i) (facts r .len i) (omega arith),
+            never-overrun waits (facts x) (due x) (measured (facts x)) (sound .covers (facts x))
+                (λ l l<. released-apart (facts x) (facts x .phase) l) (boundBy (facts x) (measured (facts x)))
+                (accepted-bounded measured (x .book) accepted (sound .carries)) t i h now,
+            le-ltb (facts x .len i) (facts x .len i) (omega arith),
           ))
           (λ quiet. rw quiet))))
 
       -- the memory is long enough
-      room : code13 areaBytes (areaAt waits r t) .code ≡ 0
+      room : code13 areaBytes (areaAt waits x t) .code ≡ 0
       unfolding areaAt
       room =
-          code13-passes areaBytes (areaAt waits r t)
+          code13-passes areaBytes (areaAt waits x t)
           (omega (
             arith,
-            ready .area,
-            length-area (facts r .flows) (run waits r t),
-            length-over (areaOf (facts r .flows) (run waits r t)) (r .area)
-                (omega (arith, length-area (facts r .flows) (run waits r t), ready .area)),
+            ran .area,
+            length-area (facts x .flows) (run waits x t),
+            length-over (areaOf (facts x .flows) (run waits x t)) (x .area)
+                (omega (arith, length-area (facts x .flows) (run waits x t), ran .area)),
           ))
 
-      -- so every rule before code 12 passes
-      before-clock : Passed (slotAt waits r t) beforeClock
-      unfolding beforeClock
-      before-clock =
-          passed-append (passed-on (λ (a : Advancing). a .book) (book-passed measured (r .book) (ready .accepted)))
-          (passed-more room
-          (passed-more (code13-passes (grantBytes * facts r .flows) (r .grants t) (ready .grants t))
-          (passed-more (subst (λ (now : Releases). code10 (facts r) now (stateAt waits r t) .code ≡ 0) (sym slot-releases) code10-passes)
-          passed-none)))
+      -- what it is lent for its grants has room for all
+      module _ (lent : List ℕ) (enough : grantBytes * facts x .flows ≤ length lent) where
+        -- so every rule before code 12 passes
+        before-clock : Passed (slotAt waits x t lent) beforeClock
+        unfolding beforeClock
+        before-clock =
+            passed-append (passed-on (λ (a : Advancing). a .book) (book-passed measured (x .book) accepted))
+            (passed-more room
+            (passed-more (code13-passes (grantBytes * facts x .flows) lent enough)
+            (passed-more (subst (λ (now : Releases). code10 (facts x) now (stateAt waits x t) .code ≡ 0) (sym slot-releases) code10-passes)
+            passed-none)))
 
-      -- the flows granted are those of the run
-      slot-goes : flowsGrantedBy waits releasesOf (slotAt waits r t) ≡ goes waits r t
-      unfolding flowsGrantedBy
-      slot-goes =
-          ap (λ (now : Releases). grantedBy waits (facts r) now (stateAt waits r t)) slot-releases
-          ∙ alike-granted waits (sound .local) (facts r .flows) (facts r) (facts r) self (due r t) (due r t) (stateAt waits r t) (run waits r t) slot-level refl refl
+        -- the flows granted are those of the run
+        slot-goes : flowsGrantedBy waits releasesOf (slotAt waits x t lent) ≡ goes waits x t
+        unfolding flowsGrantedBy
+        slot-goes =
+            ap (λ (now : Releases). grantedBy waits (facts x) now (stateAt waits x t)) slot-releases
+            ∙ alike-granted waits (sound .local) (facts x .flows) (facts x) (facts x) self (due x t) (due x t) (stateAt waits x t) (run waits x t) slot-level refl refl
 
-      -- and so are the bytes that are written for them, and the area that is left
-      slot-grants : grantsInBy waits releasesOf (slotAt waits r t) ≡ made waits r t
-      unfolding grantsInBy flowsGrantedBy
-      slot-grants =
-          ap (λ (now : Releases). grantsOf (grantOf (facts r) now (stateAt waits r t)) (grantedBy waits (facts r) now (stateAt waits r t)))
-          slot-releases
-          ∙ alike-grants waits (sound .local) (facts r .flows) (facts r) (facts r) self (due r t) (due r t) (stateAt waits r t) (run waits r t) slot-level refl refl
+        -- and so are the bytes that are written for them, and the area that is left
+        slot-grants : grantsInBy waits releasesOf (slotAt waits x t lent) ≡ made waits x t
+        unfolding grantsInBy flowsGrantedBy
+        slot-grants =
+            ap (λ (now : Releases). grantsOf (grantOf (facts x) now (stateAt waits x t)) (grantedBy waits (facts x) now (stateAt waits x t)))
+            slot-releases
+            ∙ alike-grants waits (sound .local) (facts x .flows) (facts x) (facts x) self (due x t) (due x t) (stateAt waits x t) (run waits x t) slot-level refl refl
 
-      slot-area : over (nextAreaBy waits releasesOf (slotAt waits r t)) (areaAt waits r t) ≡ areaAt waits r (suc t)
-      unfolding nextAreaBy areaAt runBy
-      slot-area =
-          let next : State = run waits r (suc t) in
-          ap (λ (now : Releases). over (areaOf (facts r .flows) (nextStateBy waits (facts r) now (stateAt waits r t))) (areaAt waits r t))
-          slot-releases
-          ∙ ap (λ (new : List ℕ). over new (areaAt waits r t))
-          (abreast-area (facts r .flows) (nextStateBy waits (facts r) (due r t) (stateAt waits r t)) next
-          (alike-on waits (sound .local) (facts r .flows) (facts r) (facts r) self (due r t) (due r t) (stateAt waits r t) (run waits r t) slot-level
-          (omega arith) (omega arith) (slot-abreast .slot)))
-          ∙ over-over (areaOf (facts r .flows) next) (areaOf (facts r .flows) (run waits r t)) (r .area)
-          (length-area (facts r .flows) next ∙ sym (length-area (facts r .flows) (run waits r t)))
+        slot-area : over (nextAreaBy waits releasesOf (slotAt waits x t lent)) (areaAt waits x t) ≡ areaAt waits x (suc t)
+        unfolding nextAreaBy areaAt runBy
+        slot-area =
+            let next : State = run waits x (suc t) in
+            ap (λ (now : Releases). over (areaOf (facts x .flows) (nextStateBy waits (facts x) now (stateAt waits x t))) (areaAt waits x t))
+            slot-releases
+            ∙ ap (λ (new : List ℕ). over new (areaAt waits x t))
+            (abreast-area (facts x .flows) (nextStateBy waits (facts x) (due x t) (stateAt waits x t)) next
+            (alike-on waits (sound .local) (facts x .flows) (facts x) (facts x) self (due x t) (due x t) (stateAt waits x t) (run waits x t) slot-level
+            (omega arith) (omega arith) (slot-abreast .slot)))
+            ∙ over-over (areaOf (facts x .flows) next) (areaOf (facts x .flows) (run waits x t)) (x .area)
+            (length-area (facts x .flows) next ∙ sym (length-area (facts x .flows) (run waits x t)))
 
-    -- a slot before the clock's end is done, with the count of its grants
-    slot-done : (t : ℕ) → t < endOfClock → advanceAnswerBy waits releasesOf (slotAt waits r t) ≡ done (length (goes waits r t))
+    -- a slot before the clock's end, that is lent room for its grants, is done, with the count of them
+    slot-done :
+        (t : ℕ) (lent : List ℕ)
+        → t < endOfClock
+        → grantBytes * facts x .flows ≤ length lent
+        → advanceAnswerBy waits releasesOf (slotAt waits x t lent) ≡ done (length (goes waits x t))
     unfolding fromClock code12
-    slot-done t clock =
-        rules-split waits (slotAt waits r t)
-        ∙ passed-done (λ x. length (flowsGrantedBy waits releasesOf x))
-        (passed-append (before-clock t (omega arith))
+    slot-done t lent clock enough =
+        rules-split waits (slotAt waits x t lent)
+        ∙ passed-done (λ y. length (flowsGrantedBy waits releasesOf y))
+        (passed-append (before-clock t (omega arith) lent enough)
         (passed-more
         (ap (λ (a : Answer). a .code)
-        (given-false 12 (eqb (stateAt waits r t .slot) endOfClock) 0
-        (ne-eqb (stateAt waits r t .slot) endOfClock (λ e. omega (arith, slot-read t (omega arith))))))
+        (given-false 12 (eqb (stateAt waits x t .slot) endOfClock) 0
+        (ne-eqb (stateAt waits x t .slot) endOfClock (λ e. omega (arith, slot-read t (omega arith))))))
         (passed-more
-        (subst (λ (now : Releases). code11 (facts r) now (stateAt waits r t) .code ≡ 0) (sym (slot-releases t (omega arith)))
+        (subst (λ (now : Releases). code11 (facts x) now (stateAt waits x t) .code ≡ 0) (sym (slot-releases t (omega arith)))
         (code11-passes t (omega arith)))
         passed-none)))
-        ∙ ap (λ (is : List ℕ). done (length is)) (slot-goes t (omega arith))
+        ∙ ap (λ (is : List ℕ). done (length is)) (slot-goes t (omega arith) lent enough)
 
-    -- at the clock's end the answer is 12
-    clock-ends : advanceAnswerBy waits releasesOf (slotAt waits r endOfClock) ≡ refused 12 0
+    -- at the clock's end the answer is 12, and nothing is touched
+    clock-ends :
+        (lent : List ℕ)
+        → grantBytes * facts x .flows ≤ length lent
+        → advanceAnswerBy waits releasesOf (slotAt waits x endOfClock lent) ≡ refused 12 0
     unfolding fromClock code12
-    clock-ends =
-        let over12 : code12 (stateAt waits r endOfClock) ≡ refused 12 0
-        = given-true 12 (eqb (stateAt waits r endOfClock .slot) endOfClock) 0
-        (eq-eqb (stateAt waits r endOfClock .slot) endOfClock (slot-read endOfClock (omega arith))) in
-        rules-split waits (slotAt waits r endOfClock)
+    clock-ends lent enough =
+        let over12 : code12 (stateAt waits x endOfClock) ≡ refused 12 0
+        = given-true 12 (eqb (stateAt waits x endOfClock .slot) endOfClock) 0
+        (eq-eqb (stateAt waits x endOfClock .slot) endOfClock (slot-read endOfClock (omega arith))) in
+        rules-split waits (slotAt waits x endOfClock lent)
         ∙ passed-refused (λ a. code12 (stateIn (a .area))) ((λ a. ruleOf code11 a) ∷ [])
-        (λ x. length (flowsGrantedBy waits releasesOf x)) (before-clock endOfClock (omega arith))
+        (λ y. length (flowsGrantedBy waits releasesOf y)) (before-clock endOfClock (omega arith) lent enough)
         (λ e. omega (arith, ap (λ (a : Answer). a .code) over12))
         ∙ over12
 
+    end-leaves :
+        (lent : List ℕ)
+        → grantBytes * facts x .flows ≤ length lent
+        → advanceBy waits releasesOf (slotAt waits x endOfClock lent)
+        ≡ record { answer = refused 12 0; area = areaAt waits x endOfClock; grants = lent }
+    unfolding advanceBy isDone
+    end-leaves lent enough = rw (clock-ends lent enough)
+
     -- an advance that is handed the run after t slots leaves the run after one more, and the grants of the slot
     slot-leaves :
-        (t : ℕ)
+        (t : ℕ) (lent : List ℕ)
         → t < endOfClock
-        → advanceBy waits releasesOf (slotAt waits r t)
-        ≡ record {
-          answer = done (length (goes waits r t));
-          area = areaAt waits r (suc t);
-          grants = over (made waits r t) (r .grants t);
-        }
+        → grantBytes * facts x .flows ≤ length lent
+        → advanceBy waits releasesOf (slotAt waits x t lent)
+        ≡ record { answer = done (length (goes waits x t)); area = areaAt waits x (suc t); grants = over (made waits x t) lent }
     unfolding advanceBy isDone
-    slot-leaves t clock = rw (slot-done t clock, slot-area t (omega arith), slot-grants t (omega arith))
+    slot-leaves t lent clock enough =
+        rw (slot-done t lent clock enough, slot-area t (omega arith) lent enough, slot-grants t (omega arith) lent enough)
+
+    -- START is done, and leaves the run after no slot
+    pub started : x .started ≡ record { answer = done 0; area = areaAt waits x 0 }
+    unfolding startBy areaAt startArea runBy isDone
+    started = ran .starts ∙ rw start-done
+
+    -- what the advance of slot t gives, if the area before it holds the run after u slots
+    from-area :
+        (t u : ℕ)
+        → t < x .count
+        → areaBefore x t ≡ areaAt waits x u
+        → x .advanced (at t) ≡ advanceBy waits releasesOf (slotAt waits x u (x .grants (at t)))
+    from-area t u h e =
+        ran .advances (at t) h
+        ∙ ap (λ (area : List ℕ). advanceBy waits releasesOf (record { book = x .book; area = area; grants = x .grants (at t) })) e
 
     -- THE AREA before slot t holds the run after t slots
-    pub area-before : (t : ℕ) → t ≤ endOfClock → areaBefore (plannerBy measured waits) r t ≡ areaAt waits r t
-    unfolding areaBefore startBy areaAt startArea runBy isDone
-    area-before zero clock = rw start-done
-    area-before (suc t) clock =
-        ap (λ (area : List ℕ). advanceBy waits releasesOf (record { book = r .book; area = area; grants = r .grants t }) .area)
-        (area-before t (omega arith))
-        ∙ ap (λ (a : Advanced). a .area) (slot-leaves t clock)
+    area-before : (t : ℕ) → t ≤ x .count → t ≤ endOfClock → areaBefore x t ≡ areaAt waits x t
+    unfolding areaBefore
+    area-before zero h clock = ap (λ (s : Started). s .area) started
+    area-before (suc t) h clock =
+        ap (λ (a : Advanced). a .area)
+        (from-area t t h (area-before t (omega arith) (omega arith)) ∙ slot-leaves t (x .grants (at t)) clock (ran .grants (at t) h))
 
-    -- its first four bytes say so
-    pub slot-before : (t : ℕ) → t ≤ endOfClock → long (areaBefore (plannerBy measured waits) r t) 0 ≡ t
-    unfolding stateIn
-    slot-before t clock = rw (area-before t clock) (slot-read t clock)
-
-    -- start is done
-    pub starts : Done (startBy measured (record { book = r .book; area = r .area }) .answer)
-    unfolding startBy
-    starts = ap (λ (a : Answer). a .code) start-done
+    -- and past the clock's end the run that ended there
+    area-past : (t : ℕ) → t ≤ x .count → endOfClock ≤ t → areaBefore x t ≡ areaAt waits x endOfClock
+    unfolding areaBefore
+    area-past zero h past = absurd (omega arith)
+    area-past (suc t) h past =
+        ⊎-elim
+        (λ (before : t < endOfClock). let e : suc t ≡ endOfClock = omega arith in area-before (suc t) h (omega arith) ∙ ap (areaAt waits x) e)
+        (λ (after : endOfClock ≤ t).
+        ap (λ (a : Advanced). a .area)
+        (from-area t endOfClock h (area-past t (omega arith) after) ∙ end-leaves (x .grants (at t)) (ran .grants (at t) h)))
+        (lt-or-ge t endOfClock)
 
     -- WHAT SLOT t ANSWERS AND LEAVES, up to the clock's end
     pub in-slot :
         (t : ℕ)
+        → t < x .count
         → t < endOfClock
-        → inSlot (plannerBy measured waits) r t
+        → x .advanced (at t)
         ≡ record {
-          answer = done (length (goes waits r t));
-          area = areaAt waits r (suc t);
-          grants = over (made waits r t) (r .grants t);
+          answer = done (length (goes waits x t));
+          area = areaAt waits x (suc t);
+          grants = over (made waits x t) (x .grants (at t));
         }
-    unfolding inSlot
-    in-slot t clock =
-        ap (λ (area : List ℕ). advanceBy waits releasesOf (record { book = r .book; area = area; grants = r .grants t }))
-        (area-before t (omega arith))
-        ∙ slot-leaves t clock
+    in-slot t h clock = from-area t t h (area-before t (omega arith) (omega arith)) ∙ slot-leaves t (x .grants (at t)) clock (ran .grants (at t) h)
 
-    -- and at its end
-    pub in-last-slot : inSlot (plannerBy measured waits) r endOfClock .answer ≡ refused 12 0
-    unfolding inSlot advanceBy
-    in-last-slot =
-        ap (λ (area : List ℕ). advanceAnswerBy waits releasesOf (record { book = r .book; area = area; grants = r .grants endOfClock }))
-        (area-before endOfClock (omega arith))
-        ∙ clock-ends
+    -- and past it
+    pub past-clock : (t : ℕ) → t < x .count → endOfClock ≤ t → x .advanced (at t) .answer ≡ refused 12 0
+    past-clock t h past =
+        ap (λ (a : Advanced). a .answer)
+        (from-area t endOfClock h (area-past t (omega arith) past) ∙ end-leaves (x .grants (at t)) (ran .grants (at t) h))

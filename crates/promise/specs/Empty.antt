@@ -1,92 +1,60 @@
--- Five empty programs, which the demands turn away: each is the planner with one call replaced. Leans on the trade's
--- Demands.
-use Prim.Native.Nat.{ℕ, suc}
+-- Empty programs, which the demands turn away: any program with such a call, whatever else it does. Leans on Demands.
+use Prim.Native.Nat.{ℕ, suc, _*_, _≤_, _<_}
 use mathlib.Core.Path.{_≡_}
-use mathlib.Core.Bool.{cond}
 use mathlib.Core.List.{List}
-use lib.Dec.{eqb}
-use lib.ListN.{length, replicate}
-use Rattle.trade.specs.Limits.{mostFlows}
-use Rattle.trade.specs.Bytes.{long, fourBytes, over}
-use Rattle.trade.specs.Answers.{done, refused, isDone}
-use Rattle.trade.specs.Calls.{Checked, Advancing, Advanced, checkAnswer, flowsGranted, advanceAnswer, advanceOf}
-use Rattle.trade.specs.Demands.{Program, planner, Done, Demand2, Demand3}
+use lib.ListN.{length}
+use Rattle.trade.specs.Limits.{endOfClock}
+use Rattle.trade.specs.Bytes.{over}
+use Rattle.trade.specs.Calls.{Checked, Starting, Started, Advancing, Advanced, checkAnswer, flowsGranted, advanceAnswer}
+use Rattle.trade.specs.declared.clock.Slot.{Slot}
+use Rattle.promise.specs.Demands.{Program, Done, Refused, Always, reported, Ran, RunBy, HasRun, Demand2, Demand3}
 
--- the planner with another check, and with another advance
-unfoldable pub withCheck : (List ℕ → Checked) → Program
-withCheck check =
-    record {
-      read = planner .read;
-      check = check;
-      write = planner .write;
-      add = planner .add;
-      remove = planner .remove;
-      start = planner .start;
-      advance = planner .advance;
-    }
+-- a program that gives something for whatever it is handed
+pub record Answers (p : Program) : Type 0 where
+  pub check : (b : List ℕ) → (given : Checked) × p .check b given
+  pub start : (s : Starting) → (given : Started) × p .start s given
+  pub advance : (a : Advancing) → (given : Advanced) × p .advance a given
 
-unfoldable pub withAdvance : (Advancing → Advanced) → Program
-withAdvance advance =
-    record {
-      read = planner .read;
-      check = planner .check;
-      write = planner .write;
-      add = planner .add;
-      remove = planner .remove;
-      start = planner .start;
-      advance = advance;
-    }
+-- its check accepts what is to be accepted, whatever bounds it reports
+abbrev pub Accepting : Program → Type 0
+Accepting p = Always (p .check) (λ b checked. Done (checkAnswer b) → Done (checked .answer))
 
--- all tables refused, whatever the code, from 1 on, and the number
-unfoldable pub refusesAll : ℕ → ℕ → Program
-refusesAll code number = withCheck (λ b. record { answer = refused (suc code) number; bounds = replicate mostFlows 0 })
-
--- one constant bound list, and one constant grant list
-unfoldable pub sameBounds : List ℕ → Program
-sameBounds bounds = withCheck (λ b. record { answer = checkAnswer b; bounds = bounds })
-
-unfoldable pub sameGrants : List ℕ → Program
-sameGrants grants = withAdvance (λ a. record { answer = advanceAnswer a; area = advanceOf a .area; grants = grants })
-
--- an advance that only moves the clock
-unfoldable pub clockMoved : Advancing → Advanced
-clockMoved a = record { answer = done 0; area = over (fourBytes (suc (long (a .area) 0))) (a .area); grants = a .grants }
-
--- one that grants nothing, and one that works in slot 0 and then only moves the clock
-unfoldable pub grantsNothing : Program
-grantsNothing = withAdvance clockMoved
-
-unfoldable pub onlySlotZero : Program
-onlySlotZero = withAdvance (λ a. cond (eqb (long (a .area) 0) 0) (advanceOf a) (clockMoved a))
-
--- an invented count of grants
-unfoldable pub inventsCount : (Advancing → ℕ) → Program
-inventsCount count =
-    withAdvance
-    (λ a.
-    record {
-      answer = cond (isDone (advanceAnswer a)) (done (count a)) (advanceAnswer a);
-      area = advanceOf a .area;
-      grants = advanceOf a .grants;
-    })
+-- from slot k on its runs count no grant: none at all, where k is 0; working in slot 0 alone, where it is 1
+abbrev pub StopsAt : ℕ → Program → Type 0
+StopsAt k p = (x : Ran) → RunBy p x → (t : Slot) → k ≤ t .0 → HasRun x t → x .advanced t .answer .number ≡ 0
 
 -- each breaks the demand that is named for it
-pub record TurnedAway : Type 0 where
+pub record TurnedAway (p : Program) : Type 0 where
   -- demand 2: acceptance happens when bounds exist
-  pub refusing-all : (code number : ℕ) → Demand2 (refusesAll code number) → ⊥
-  -- demand 2: smallest bound, and greedy choice
-  pub same-bounds : (bounds : List ℕ) → Demand2 (sameBounds bounds) → ⊥
-  pub same-grants : (grants : List ℕ) → Demand2 (sameGrants grants) → ⊥
-  -- demands 2 and 3
-  pub granting-nothing : Demand2 grantsNothing → ⊥
-  pub granting-nothing-over-time : Demand3 grantsNothing → ⊥
-  -- demand 3, over any number of slots
-  pub only-slot-zero : Demand3 onlySlotZero → ⊥
+  pub refusing-all : Always (p .check) (λ b checked. Refused (checked .answer)) → Demand2 p → ⊥
+  -- demand 2: smallest bound, and greedy choice: one constant bound list, and one constant grant list with a constant count
+  pub same-bounds :
+      (bounds : List ℕ) → Always (p .check) (λ b checked. Done (checked .answer) → checked .bounds ≡ bounds) → Demand2 p → ⊥
+  pub same-grants :
+      (grants : List ℕ) (count : ℕ)
+      → Always (p .advance)
+      (λ a advanced. Done (advanced .answer) → (advanced .answer .number ≡ count) × (advanced .grants ≡ over grants (a .grants)))
+      → Demand2 p
+      → ⊥
+  -- demands 2 and 3: an advance that, where it is done, counts no grants
+  pub granting-nothing : Always (p .advance) (λ a advanced. Done (advanced .answer) → advanced .answer .number ≡ 0) → Demand2 p → ⊥
+  -- demand 3, over any number of slots: one that works for some slots and then no more, while book A has an instance to come; whatever
+  -- bounds its check reports
+  pub stopping : Accepting p → (k : ℕ) → 10 * suc k ≤ endOfClock → StopsAt k p → Demand3 p → ⊥
+  -- such as bounds past the end of the clock, within which nothing would be owed
+  pub bounds-past-the-clock :
+      Accepting p
+      → Always (p .check) (λ b checked. (l : ℕ) → endOfClock < reported checked l)
+      → StopsAt 0 p
+      → Demand3 p
+      → ⊥
   -- demand 2: the count is that of the greedy set, so one that is wrong in a slot that is done is turned away; such as one more
   pub inventing-counts :
-      (count : Advancing → ℕ) (a : Advancing)
+      (a : Advancing) (advanced : Advanced)
+      → p .advance a advanced
       → Done (advanceAnswer a)
-      → (count a ≡ length (flowsGranted a) → ⊥)
-      → Demand2 (inventsCount count)
+      → (advanced .answer .number ≡ length (flowsGranted a) → ⊥)
+      → Demand2 p
       → ⊥
-  pub one-more : Demand2 (inventsCount (λ a. suc (length (flowsGranted a)))) → ⊥
+  pub one-more :
+      Always (p .advance) (λ a advanced. Done (advanceAnswer a) → advanced .answer .number ≡ suc (length (flowsGranted a))) → Demand2 p → ⊥

@@ -1,4 +1,6 @@
--- What a reader must believe of the promise: when a program meets its contracts, that a table is one book, and which programs are empty.
+-- What a reader must believe of the promise: the three demands on any program, when a program meets its contracts, that a table is one
+-- book, and which programs are empty.
+pub mod Demands
 pub mod Promise
 pub mod Tables
 pub mod Empty

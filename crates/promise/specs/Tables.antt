@@ -1,37 +1,38 @@
--- One table, one book: the table that add returns is written as a book that is this table. Leans on the trade's Demands.
+-- One table, one book: the table that add gives is written as a book that is this table, and is run. Leans on Demands.
 use Prim.Native.Nat.{ℕ, _≤_}
 use mathlib.Core.Path.{_≡_}
 use mathlib.Core.List.{List}
-use lib.ListN.{length, take}
+use lib.ListN.{length, getD, take}
 use Rattle.trade.specs.Bytes.{over}
 use Rattle.trade.specs.Layout.{Sections}
 use Rattle.trade.specs.Facts.{factsOf}
 use Rattle.trade.specs.Answers.{done}
-use Rattle.trade.specs.Calls.{Adding, Written, boundsOf}
-use Rattle.trade.specs.Demands.{Program, Done}
+use Rattle.trade.specs.Calls.{Got, Checked, Written, boundsOf}
+use Rattle.promise.specs.Demands.{Program, Done, Ran, RunBy, Honoured}
 
--- a table written into a lent buffer, and the book that the buffer then holds: as many bytes as the answer says
-abbrev pub writing : Program → Sections → List ℕ → Written
-writing p t buffer = p .write (record { table = t; buffer = buffer })
-
+-- the book that a buffer then holds: as many bytes as the answer says
 abbrev pub bookIn : Written → List ℕ
 bookIn w = take (w .answer .number) (w .buffer)
 
--- of the table that add returned, written into a buffer with room:
-pub record OneBook (p : Program) (a : Adding) (buffer : List ℕ) : Type 0 where
+-- of a table, and what write gave for it:
+pub record OneBook (p : Program) (table : Sections) (w : Written) : Type 0 where
   -- it is written as a book,
-  pub written : Done (writing p (p .add a .table) buffer .answer)
+  pub written : Done (w .answer)
   -- which check accepts, with the bounds of the table,
   pub accepted :
-      p .check (bookIn (writing p (p .add a .table) buffer)) ≡ record { answer = done 0; bounds = boundsOf (factsOf (p .add a .table)) }
+      (checked : Checked)
+      → p .check (bookIn w) checked
+      → checked ≡ record { answer = done 0; bounds = boundsOf (factsOf table) }
   -- and read gives back the table;
-  pub read : p .read (bookIn (writing p (p .add a .table) buffer)) ≡ record { answer = done 0; table = p .add a .table }
+  pub read : (got : Got) → p .read (bookIn w) got → got ≡ record { answer = done 0; table = table }
   -- written again, into any buffer with room, it is the same book
   pub again :
-      (other : List ℕ)
-      → length (bookIn (writing p (p .add a .table) buffer)) ≤ length other
-      → writing p (p .read (bookIn (writing p (p .add a .table) buffer)) .table) other
-      ≡ record {
-        answer = done (length (bookIn (writing p (p .add a .table) buffer)));
-        buffer = over (bookIn (writing p (p .add a .table) buffer)) other;
-      }
+      (got : Got)
+      → p .read (bookIn w) got
+      → (other : List ℕ)
+      → length (bookIn w) ≤ length other
+      → (more : Written)
+      → p .write (record { table = got .table; buffer = other }) more
+      → more ≡ record { answer = done (length (bookIn w)); buffer = over (bookIn w) other }
+  -- RUN, it keeps what is owed of an accepted table, within the bounds of the table
+  pub runs : (x : Ran) → x .book ≡ bookIn w → RunBy p x → Honoured x (λ l. getD (boundsOf (factsOf table)) l 0)

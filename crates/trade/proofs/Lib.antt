@@ -12,7 +12,6 @@ pub mod Alike
 pub mod Prefix
 pub mod Bytes
 pub mod Area
-pub mod Grants
 pub mod Places
 pub mod Used
 pub mod Exchange

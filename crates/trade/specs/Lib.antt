@@ -18,8 +18,7 @@ pub mod Slot
 pub mod Area
 pub mod SlotCodes
 pub mod Run
--- The calls, the demands, and the proved cases.
+-- The calls, and the proved cases.
 pub mod Exchange
 pub mod Calls
-pub mod Demands
 pub mod Cases

@@ -5,12 +5,12 @@ use mathlib.Core.List.{List, [], _∷_, _++_, append-assoc}
 use native.Mathlib.Omega.{arith}
 use native.Mathlib.Nat.{add-assoc}
 use lib.ListN.{length, getD, List·getD-append}
 use Rattle.trade.specs.Limits.{grantBytes}
 use Rattle.trade.specs.Bytes.{twoBytes, fourBytes}
 use Rattle.trade.specs.Facts.{Facts}
 use Rattle.trade.specs.Slot.{State, Releases, doneNow, nextStep, grantOf, grantsOf}
-use Rattle.trade.specs.Demands.{grantAt, stepGrant}
+use Rattle.promise.specs.Demands.{grantAt, stepGrant}
 use Rattle.trade.proofs.Bytes.{word-front, long-front, byte-behind, word-behind, long-behind, word-twoBytes, long-fourBytes}
 
 -- the first of several grants, and those behind it
 pub grant-front : (a b : List ℕ) → length a ≡ grantBytes → grantAt (a ++ b) 0 ≡ grantAt a 0
@@ -62,7 +62,9 @@ module _ (f : Facts) (r : Releases) (s : State) (i : ℕ) where
 
   -- a grant says which step of which instance of which flow it is
   pub grant-says :
-      f .id i < 2 ^ 16 → r .instance i < 2 ^ 32 → grantAt (grantOf f r s i) 0 ≡ stepGrant f i (r .instance i) (doneNow r s i)
+      f .id i < 2 ^ 16
+      → r .instance i < 2 ^ 32
+      → grantAt (grantOf f r s i) 0 ≡ stepGrant f i (record { 0 = r .instance i }) (record { 0 = doneNow r s i })
   unfolding grantAt grantOf stepGrant nextStep twoBytes fourBytes
   grant-says id< v< =
       let last : List ℕ = doneNow r s i ∷ nextStep f r s i .sender .0 ∷ nextStep f r s i .receiver .0 ∷ [] in
@@ -70,8 +72,7 @@ module _ (f : Facts) (r : Releases) (s : State) (i : ℕ) where
       λ k.
       record {
         id = word-twoBytes (f .id i) (inst ++ last) id< k;
-        instance = (long-behind (twoBytes (f .id i)) (inst ++ last) 2 0 refl ∙ long-fourBytes (r .instance i) last v<) k;
-        step = doneNow r s i;
-        sender = nextStep f r s i .sender .0;
-        receiver = nextStep f r s i .receiver .0;
+        instance = record { 0 = (long-behind (twoBytes (f .id i)) (inst ++ last) 2 0 refl ∙ long-fourBytes (r .instance i) last v<) k };
+        step = record { 0 = doneNow r s i };
+        transmission = nextStep f r s i;
       }

@@ -1,0 +1,93 @@
+-- Whatever a function that ships gave, on whatever it was handed, is the planner's: its contract says so. Assumes nothing.
+use Prim.Native.Nat.{ℕ, _/_, _%_, _<_}
+use mathlib.Core.Path.{_≡_, sym, _∙_, ap}
+use mathlib.Core.List.{List}
+use native.Mathlib.Omega.{arith}
+use Rattle.trade.specs.Limits.{packing}
+use Rattle.trade.specs.Answers.{packedOf}
+use Rattle.trade.specs.Bound.{measure}
+use Rattle.trade.specs.Slot.{greedy, releasesOf}
+use Rattle.trade.specs.Calls.{Checked, readOf, checkOf, checkBy, writeOf, addOf, removeOf, startOf, startBy, advanceOf, advanceBy}
+use Rattle.trade.specs.declared.answer.Answer.{Answer}
+use Rattle.trade.proofs.Numbers.{check-number, start-number, advance-number}
+use Rattle.promise.specs.Demands.{Always, planner}
+use Rattle.promise.specs.Promise.{Meets}
+use Rattle.shipped.specs.Calls.{Read, Check, Write, Add, Remove, Start, Advance, shipped, unpacked, SlotStart, SlotAdvance, forC}
+
+-- THE SEVEN CALLS
+pub read-planned : Always Read (planner .read)
+read-planned b given (κs, a, r, s, p, i, o) = o ∙ (λ t. record { answer = p .answer t; table = p .table t }) ∙ ap readOf (sym i)
+
+pub check-planned : Always Check (planner .check)
+check-planned b given (κs, a, r, s, p, i, o) = o ∙ (λ t. record { answer = p .answer t; bounds = p .bounds t }) ∙ ap checkOf (sym i)
+
+pub write-planned : Always Write (planner .write)
+write-planned w given (κs, a, r, s, p, i, o) = o ∙ (λ t. record { answer = p .answer t; buffer = p .buffer t }) ∙ ap writeOf (sym i)
+
+pub add-planned : Always Add (planner .add)
+add-planned w given (κs, a, r, s, p, i, o) = o ∙ (λ t. record { answer = p .answer t; table = p .table t }) ∙ ap addOf (sym i)
+
+pub remove-planned : Always Remove (planner .remove)
+remove-planned w given (κs, a, r, s, p, i, o) = o ∙ (λ t. record { answer = p .answer t; table = p .table t }) ∙ ap removeOf (sym i)
+
+pub start-planned : Always Start (planner .start)
+start-planned w given (κs, a, r, s, p, i, o) = o ∙ (λ t. record { answer = p .answer t; area = p .area t }) ∙ ap startOf (sym i)
+
+pub advance-planned : Always Advance (planner .advance)
+advance-planned w given (κs, a, r, s, p, i, o) =
+    o ∙ (λ t. record { answer = p .answer t; area = p .area t; grants = p .grants t }) ∙ ap advanceOf (sym i)
+
+-- THE PROGRAM THAT SHIPS meets its contracts
+pub shipped-meets : Meets shipped
+shipped-meets =
+    record {
+      reads = read-planned;
+      checks = check-planned;
+      writes = write-planned;
+      adds = add-planned;
+      removes = remove-planned;
+      starts = start-planned;
+      advances = advance-planned;
+    }
+
+-- an answer whose number fits is unpacked as it was packed
+unpacked-packed : (n : ℕ) (a : Answer) → a .number < packing → n ≡ packedOf a → unpacked n ≡ a
+unpacked-packed n a h e =
+    let code : n / packing ≡ a .code = omega arith in
+    let number : n % packing ≡ a .number = omega arith in
+    λ t. record { code = code t; number = number t }
+
+-- THE THREE CALLS FOR C
+pub slot-check-planned : Always (forC .check) (planner .check)
+unfolding checkBy
+slot-check-planned b given (n, (κs, a, s, p, i), o, c, k, bounds) =
+    let planned : c ≡ checkOf b = check-planned b c k in
+    let answer : given .answer ≡ checkOf b .answer
+    = o
+    ∙ unpacked-packed n _ (check-number measure _) (p .answer)
+    ∙ ap (λ (x : List ℕ). checkOf x .answer) (sym i) in
+    λ t. record { answer = answer t; bounds = (bounds ∙ ap (λ (x : Checked). x .bounds) planned) t }
+
+pub slot-start-planned : Always SlotStart (planner .start)
+unfolding startBy
+slot-start-planned w given (κs, a, n, s, p, i, o) =
+    let answer = unpacked-packed n _ (start-number measure _) (p .answer) in
+    o ∙ (λ t. record { answer = answer t; area = p .area t }) ∙ ap startOf (sym i)
+
+pub slot-advance-planned : Always SlotAdvance (planner .advance)
+unfolding advanceBy
+slot-advance-planned w given (κs, a, n, s, p, i, o) =
+    let answer = unpacked-packed n _ (advance-number greedy releasesOf _) (p .answer) in
+    o ∙ (λ t. record { answer = answer t; area = p .area t; grants = p .grants t }) ∙ ap advanceOf (sym i)
+
+pub for-c-meets : Meets forC
+for-c-meets =
+    record {
+      reads = read-planned;
+      checks = slot-check-planned;
+      writes = write-planned;
+      adds = add-planned;
+      removes = remove-planned;
+      starts = slot-start-planned;
+      advances = slot-advance-planned;
+    }

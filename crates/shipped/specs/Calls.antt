@@ -1,0 +1,111 @@
+-- The calls that ship, each as a relation: what it was handed, and what it gave, wherever a call of the function met its contract. The
+-- contracts are those that the check reads in the code, `Post`: over the arguments at entry, the result, and what the arguments that were
+-- lent hold at exit. Leans on the promise's Demands.
+use Prim.Native.Nat.{ℕ, _/_, _%_}
+use mathlib.Core.Path.{_≡_}
+use mathlib.Core.List.{List}
+use denote.Ref.{now}
+use Rattle.trade.specs.Limits.{packing}
+use Rattle.trade.specs.Calls.{Got, Checked, Writing, Written, Adding, Removing, Changed, Starting, Started, Advancing, Advanced}
+use Rattle.trade.specs.declared.answer.Answer.{Answer}
+use Rattle.table.specs.Table.{sectionsIn}
+use Rattle.promise.specs.Demands.{Program}
+use Rattle.table.proofs.table.read.Reads as read
+use Rattle.bounds.proofs.acceptance.check.Reads as check
+use Rattle.table.proofs.written.write.Reads as write
+use Rattle.changes.proofs.change.add.Reads as add
+use Rattle.changes.proofs.change.remove.Reads as remove
+use Rattle.run.proofs.start.start.Reads as start
+use Rattle.run.proofs.advance.advance.Reads as advance
+use Rattle.radio.proofs.slot_check.Reads as slot-check
+use Rattle.radio.proofs.slot_start.Reads as slot-start
+use Rattle.radio.proofs.slot_advance.Reads as slot-advance
+
+-- THE SEVEN CALLS
+abbrev pub Read : List ℕ → Got → Type 0
+Read b given =
+    (κs : _) × (a : _) × (r : _) × (s : _)
+    × read.Post κs a r s
+    × (b ≡ now (a .0))
+    × (given ≡ record { answer = r .answer; table = sectionsIn (r .table) })
+
+abbrev pub Check : List ℕ → Checked → Type 0
+Check b given =
+    (κs : _) × (a : _) × (r : _) × (s : _)
+    × check.Post κs a r s
+    × (b ≡ now (a .0))
+    × (given ≡ record { answer = r .answer; bounds = r .bounds })
+
+abbrev pub Write : Writing → Written → Type 0
+Write w given =
+    (κs : _) × (a : _) × (r : _) × (s : _)
+    × write.Post κs a r s
+    × (w ≡ record { table = sectionsIn (a .0); buffer = now (a .1 .0) })
+    × (given ≡ record { answer = r; buffer = now (s .1 .0) })
+
+abbrev pub Add : Adding → Changed → Type 0
+Add i given =
+    (κs : _) × (a : _) × (r : _) × (s : _)
+    × add.Post κs a r s
+    × (i ≡ record { table = sectionsIn (a .0); place = a .1 .0; flow = a .1 .1 .0; plan = a .1 .1 .1 .0 })
+    × (given ≡ record { answer = r .answer; table = sectionsIn (r .table) })
+
+abbrev pub Remove : Removing → Changed → Type 0
+Remove i given =
+    (κs : _) × (a : _) × (r : _) × (s : _)
+    × remove.Post κs a r s
+    × (i ≡ record { table = sectionsIn (a .0); place = a .1 .0 })
+    × (given ≡ record { answer = r .answer; table = sectionsIn (r .table) })
+
+abbrev pub Start : Starting → Started → Type 0
+Start i given =
+    (κs : _) × (a : _) × (r : _) × (s : _)
+    × start.Post κs a r s
+    × (i ≡ record { book = now (a .0); area = now (a .1 .0) })
+    × (given ≡ record { answer = r; area = now (s .1 .0) })
+
+abbrev pub Advance : Advancing → Advanced → Type 0
+Advance i given =
+    (κs : _) × (a : _) × (r : _) × (s : _)
+    × advance.Post κs a r s
+    × (i ≡ record { book = now (a .0); area = now (a .1 .0); grants = now (a .1 .1 .0) })
+    × (given ≡ record { answer = r; area = now (s .1 .0); grants = now (s .1 .1 .0) })
+
+-- THE PROGRAM that ships
+abbrev pub shipped : Program
+shipped = record { read = Read; check = Check; write = Write; add = Add; remove = Remove; start = Start; advance = Advance }
+
+-- THE THREE CALLS FOR C answer one number: code × 65,536 + the number that goes with it
+abbrev pub unpacked : ℕ → Answer
+unpacked n = record { code = n / packing; number = n % packing }
+
+abbrev pub SlotCheck : List ℕ → ℕ → Type 0
+SlotCheck b n = (κs : _) × (a : _) × (s : _) × slot-check.Post κs a n s × (b ≡ now (a .0))
+
+abbrev pub SlotStart : Starting → Started → Type 0
+SlotStart i given =
+    (κs : _) × (a : _) × (n : _) × (s : _)
+    × slot-start.Post κs a n s
+    × (i ≡ record { book = now (a .0); area = now (a .1 .0) })
+    × (given ≡ record { answer = unpacked n; area = now (s .1 .0) })
+
+abbrev pub SlotAdvance : Advancing → Advanced → Type 0
+SlotAdvance i given =
+    (κs : _) × (a : _) × (n : _) × (s : _)
+    × slot-advance.Post κs a n s
+    × (i ≡ record { book = now (a .0); area = now (a .1 .0); grants = now (a .1 .1 .0) })
+    × (given ≡ record { answer = unpacked n; area = now (s .1 .0); grants = now (s .1 .1 .0) })
+
+-- the program as C calls it: `slot_check` answers without bounds, which are those that check reports; tables are read, written and changed
+-- by the calls above
+abbrev pub forC : Program
+forC =
+    record {
+      read = Read;
+      check = λ b given. (n : ℕ) × SlotCheck b n × (given .answer ≡ unpacked n) × (c : Checked) × Check b c × (given .bounds ≡ c .bounds);
+      write = Write;
+      add = Add;
+      remove = Remove;
+      start = SlotStart;
+      advance = SlotAdvance;
+    }

@@ -1,4 +1,4 @@
-//! The independent scheduler: the rules put down as directly as it reads, with lists and plain searches, and with
+//! The independent scheduler: the rules put down as directly as they read, with lists and plain searches, and with
 //! none of the means that make a planner fast.
 
 pub mod book;

@@ -1,35 +1,28 @@
 #!/bin/sh
-# Whether the comparison has teeth: each line below spoils one rule in a copy of keen, and compare has to see it.
-# It needs no archive and takes two minutes.   host/teeth.sh
+# Whether the comparison has teeth: each line below spoils one rule in a copy of keen, and compare has to see it. All copies stand
+# beside keen in one build of the host; keen itself must show no difference. It needs no archive.   host/teeth.sh
 set -eu
 here=$(cd "$(dirname "$0")" && pwd)
 . "$here/machine.sh"
 work=$(mktemp -d)
 trap 'rm -rf "$work"' EXIT
 cp -r "$here/src" "$work/src"
-flags="--edition 2021 -O -A warnings $rust_target"
-missed=0
+count=0
 
 # spoil FILE EDIT WHAT: an edit that changes nothing is a fault of this list.
 spoil() {
-    cp "$here/src/keen/$1" "$work/src/keen/$1"
-    sed -i "$2" "$work/src/keen/$1"
-    if cmp -s "$here/src/keen/$1" "$work/src/keen/$1"; then
+    count=$((count + 1))
+    copy=spoiled_$count
+    cp -r "$here/src/keen" "$work/src/$copy"
+    sed -i "$2" "$work/src/$copy/$1"
+    if cmp -s "$here/src/keen/$1" "$work/src/$copy/$1"; then
         echo "teeth: $3: the edit changes nothing" >&2
         exit 1
     fi
-    $rustc $flags --crate-type rlib --crate-name slot_host -o "$work/libslot_host.rlib" "$work/src/lib.rs"
-    $rustc $flags --extern "slot_host=$work/libslot_host.rlib" -o "$work/compare" "$work/src/bin/compare.rs"
-    if $emulator "$work/compare" --between keen plain >"$work/log" 2>&1; then
-        echo "teeth: $3: NOT SEEN"
-        missed=$((missed + 1))
-    elif grep -q MISMATCH "$work/log"; then
-        echo "teeth: $3: seen"
-    else
-        cat "$work/log" >&2
-        exit 1
-    fi
-    cp "$here/src/keen/$1" "$work/src/keen/$1"
+    sed -i "s/\"keen\"/\"$copy\"/" "$work/src/$copy/mod.rs"
+    echo "pub mod $copy;" >>"$work/src/lib.rs"
+    sed -i "/^ *&Keen,/a &crate::$copy::Keen," "$work/src/planner.rs"
+    echo "$3" >"$work/$copy.what"
 }
 
 spoil bound.rs 's/carry: above.deadline - 1/carry: 0/' "ceil(R / P) instances"
@@ -55,5 +48,29 @@ spoil book.rs 's/(beyond | 1 << x)/(beyond << 1 | 1 << x)/' "bit n let through"
 spoil book.rs 's/sender(step) != receiver(last)/(sender(step) != receiver(last)) \& (sender(step) != sender(last))/' "a step from the same sender let through"
 spoil book.rs 's/breaks == between_plans/breaks <= between_plans + 1/' "one jump let through"
 
-echo "teeth: $missed not seen"
+flags="--edition 2021 -O -A warnings $rust_target"
+$rustc $flags --crate-type rlib --crate-name slot_host -o "$work/libslot_host.rlib" "$work/src/lib.rs"
+$rustc $flags --extern "slot_host=$work/libslot_host.rlib" -o "$work/compare" "$work/src/bin/compare.rs"
+
+# alike PLANNER: whether compare finds it and plain alike. It may find a difference, and must not fail in another way.
+alike() {
+    if $emulator "$work/compare" --between "$1" plain >"$work/log" 2>&1; then
+        return 0
+    fi
+    grep -q MISMATCH "$work/log" || { cat "$work/log" >&2; exit 1; }
+    return 1
+}
+
+alike keen || { cat "$work/log" >&2; exit 1; }
+missed=0
+for copy in $(seq -f 'spoiled_%g' "$count"); do
+    if alike "$copy"; then
+        echo "teeth: $(cat "$work/$copy.what"): NOT SEEN"
+        missed=$((missed + 1))
+    else
+        echo "teeth: $(cat "$work/$copy.what"): seen"
+    fi
+done
+
+echo "teeth: of $count spoiled rules $missed not seen"
 [ "$missed" = 0 ]

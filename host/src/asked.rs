@@ -1,11 +1,11 @@
-//! Requests for the four calls on a table: ordinary ones, and ones at and past every edge.
+//! Requests for the four calls on a table and for check: ordinary ones, and ones at and past every edge.
 
 use crate::aimed::{self, Aimed};
 use crate::answer::*;
 use crate::damage;
 use crate::dice::Dice;
 use crate::draft::{Draft, DraftFlow};
-use crate::generate::{newcomer, regular};
+use crate::generate::{accepted, newcomer, regular, Shape};
 use crate::limits::*;
 use crate::plain::book::Record;
 use crate::plain::table::{Table, PLAN_BYTES};
@@ -25,9 +25,12 @@ fn open(request: Request) -> Asked {
 /// A slice or a buffer of a request is at most this long.
 const LONGEST: usize = u16::MAX as usize;
 
-/// All four calls on a valid book, on its table, and on damaged copies of both.
+/// All five calls on a valid book, on its table, and on damaged copies of both.
 pub fn around(dice: &mut Dice, draft: &Draft) -> Vec<Asked> {
-    let mut requests = reads(dice, draft);
+    let mut requests = Vec::new();
+    for slice in slices(dice, draft) {
+        requests.extend([Request::Read { slice: slice.clone() }, Request::Check { slice }]);
+    }
     for table in [littered(dice, draft), at_random(dice, draft), at_random(dice, draft)] {
         requests.extend(writes(dice, &table, draft.bytes().len()));
         requests.extend(removes(dice, &table, draft.flows.len()));
@@ -42,7 +45,7 @@ pub fn around(dice: &mut Dice, draft: &Draft) -> Vec<Asked> {
 }
 
 /// The book, with bytes in front of it, cut, damaged, and no book at all.
-fn reads(dice: &mut Dice, draft: &Draft) -> Vec<Request> {
+fn slices(dice: &mut Dice, draft: &Draft) -> Vec<Vec<u8>> {
     let book = draft.bytes();
     let cut = dice.below(book.len());
     let mut slices = vec![book.clone(), book[cut..].to_vec(), book[..cut].to_vec(), damage::noise(dice)];
@@ -50,7 +53,7 @@ fn reads(dice: &mut Dice, draft: &Draft) -> Vec<Request> {
         slices.push([dice.bytes(front), book.clone()].concat());
     }
     slices.extend((0..4).map(|_| damage::at_random(dice, &book)));
-    slices.into_iter().map(|slice| Request::Read { slice }).collect()
+    slices
 }
 
 /// Buffers around the room that the book takes, and at both ends of their lengths.
@@ -153,13 +156,29 @@ fn tight(dice: &mut Dice, draft: &Draft) -> Vec<Request> {
     requests
 }
 
-/// Damaged copies of an accepted book, each made to meet one code, read; and their tables, handed to the other calls.
+/// Check of accepted books, as they come and with every deadline cut to its bound, from the first flow on.
+pub fn bounded(dice: &mut Dice, shape: &Shape) -> Vec<Asked> {
+    let mut requests = Vec::new();
+    for _ in 0..8 {
+        let mut draft = accepted(dice, shape);
+        let whole = draft.bytes();
+        for place in 0..draft.flows.len() {
+            draft.flows[place].deadline = draft.facts().bound(place).expect("an accepted book");
+        }
+        let passes = |slice| Asked { request: Request::Check { slice }, wanted: Some(packed(DONE, 0)) };
+        requests.extend([whole, draft.bytes()].map(passes));
+    }
+    requests
+}
+
+/// Damaged copies of an accepted book, each made to meet one code, read and checked; and their tables, handed to the other calls.
 pub fn aimed(dice: &mut Dice, draft: &Draft) -> Vec<Asked> {
     let mut requests = Vec::new();
     for Aimed { book, answer } in aimed::around(dice, draft) {
         let damaged = of_damaged(dice, draft, &book);
         let read = if code_of(answer) == NO_BOUND { packed(DONE, 0) } else { answer };
-        requests.push(Asked { request: Request::Read { slice: book }, wanted: Some(read) });
+        requests.push(Asked { request: Request::Read { slice: book.clone() }, wanted: Some(read) });
+        requests.push(Asked { request: Request::Check { slice: book }, wanted: Some(answer) });
         let tested = [BAD_COUNT, BAD_ROW, BAD_RECORD, BAD_STEP].contains(&code_of(answer));
         if let Some(table) = damaged {
             let request = table_call(dice, table, draft);

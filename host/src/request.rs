@@ -1,11 +1,17 @@
-//! The four calls on a table as requests to the proved program `requests`, whose source says how the bytes lie, and its answers.
+//! The four calls on a table, and check, as requests to the proved program `requests`, whose source says how the bytes lie, and its
+//! answers.
 
 use crate::answer::*;
 use crate::limits::*;
 use crate::plain::book::{Record, Sections};
+use crate::plain::run::check;
 use crate::plain::table::{add, read, remove, write, Table, PLAN_BYTES};
+use crate::plain::{self, Refusal};
 use std::fmt;
 use std::io::{self, Read};
+
+/// A bound in an answer of the program.
+const BOUND_BYTES: usize = 2;
 
 #[derive(Clone, Debug)]
 pub enum Request {
@@ -13,17 +19,19 @@ pub enum Request {
     Write { table: Table, buffer: Vec<u8> },
     Add { table: Table, place: u64, record: Record, plan: [u8; PLAN_BYTES] },
     Remove { table: Table, place: u64 },
+    Check { slice: Vec<u8> },
 }
 
 /// The calls in the order of their numbers, each with the codes that it can answer, in the order of their tests.
-pub const CALLS: [(&str, &[u32]); 4] = [
+pub const CALLS: [(&str, &[u32]); 5] = [
     ("read", &[DONE, 1, 2, 3, 4, 5, 6, 7, 8]),
     ("write", &[DONE, 3, 5, 6, 8, SHORT_MEMORY]),
     ("add", &[DONE, 3, 5, 6, 8, TABLE_FULL, BAD_PLACE, NO_BOUND]),
     ("remove", &[DONE, 3, 5, 6, 8, BAD_PLACE]),
+    ("check", &[DONE, 1, 2, 3, 4, 5, 6, 7, 8, NO_BOUND]),
 ];
 
-/// An answer, and the memory that comes with it: the table that a call returns, or the whole buffer that was written.
+/// An answer, and the memory that comes with it: the table or the bounds that a call returns, or the whole buffer that was written.
 #[derive(Clone, Debug, PartialEq, Eq)]
 pub struct Reply {
     pub code: u32,
@@ -39,13 +47,14 @@ impl Request {
             Request::Write { .. } => 1,
             Request::Add { .. } => 2,
             Request::Remove { .. } => 3,
+            Request::Check { .. } => 4,
         }
     }
 
     pub fn bytes(&self) -> Vec<u8> {
         let mut bytes = vec![self.call() as u8 + 1];
         match self {
-            Request::Read { slice } => put_part(&mut bytes, slice),
+            Request::Read { slice } | Request::Check { slice } => put_part(&mut bytes, slice),
             Request::Write { table, buffer } => {
                 bytes.extend(table_bytes(table));
                 put_part(&mut bytes, buffer);
@@ -77,6 +86,7 @@ impl Request {
                 plan: taken(bytes)?,
             },
             4 => Request::Remove { table: taken_table(bytes)?, place: u64::from_be_bytes(taken(bytes)?) },
+            5 => Request::Check { slice: taken_part(bytes)? },
             _ => return Err(io::ErrorKind::InvalidData.into()),
         })
     }
@@ -85,6 +95,7 @@ impl Request {
     fn memory(&self) -> usize {
         match self {
             Request::Write { buffer, .. } => buffer.len(),
+            Request::Check { .. } => BOUND_BYTES * MAX_FLOWS,
             _ => table_bytes(&Table::zeros()).len(),
         }
     }
@@ -108,6 +119,7 @@ impl Request {
             }
             Request::Add { table, place, record, plan } => with_bytes(add(table, *place as usize, *record, plan)),
             Request::Remove { table, place } => with_bytes(remove(table, *place as usize)),
+            Request::Check { slice } => with_bounds(check(slice)),
         };
         Reply { code: code_of(answer), number: number_of(answer) as u64, memory }
     }
@@ -134,6 +146,12 @@ impl fmt::Display for Reply {
 
 fn with_bytes((answer, table): (u32, Table)) -> (u32, Vec<u8>) {
     (answer, table_bytes(&table))
+}
+
+/// Refused, all bounds are 0.
+fn with_bounds(checked: Result<[u16; MAX_FLOWS], Refusal>) -> (u32, Vec<u8>) {
+    let bounds = checked.unwrap_or([0; MAX_FLOWS]);
+    (plain::answer(checked.map(|_| 0)), bounds.iter().flat_map(|bound| bound.to_be_bytes()).collect())
 }
 
 fn table_bytes(table: &Table) -> Vec<u8> {

@@ -10,23 +10,23 @@ use trade::Flow;
 use trade::Node;
 use trade::Plan;
 
-pub struct Handed {
+pub(crate) struct Handed {
     pub came: bool,
     pub table: Table,
 }
 
-pub struct Newcomer {
+pub(crate) struct Newcomer {
     pub came: bool,
     pub flow: Flow,
     pub plan: [u8; Plan::MOST * Plan::STEP_BYTES],
 }
 
-pub struct Place {
+pub(crate) struct Place {
     pub came: bool,
     pub at: usize,
 }
 
-pub struct Part {
+pub(crate) struct Part {
     pub came: bool,
     pub len: usize,
 }
@@ -38,7 +38,7 @@ fn fills(part: &mut [u8]) -> bool {
 }
 
 // The call, 0 at the end of the input.
-pub fn next_call() -> u8 {
+pub(crate) fn next_call() -> u8 {
     let mut call = [0u8; 1];
     if !fills(&mut call) {
         return 0;
@@ -47,7 +47,7 @@ pub fn next_call() -> u8 {
 }
 
 // A slice or a buffer, put at the front of a room that takes the longest.
-pub fn next_part(room: &mut [u8]) -> Part
+pub(crate) fn next_part(room: &mut [u8]) -> Part
     ensures { λ r. ⌜ Counts (r .len) (now (room .exit)) ⌝ }
 {
     let mut word = [0u8; 2];
@@ -66,7 +66,7 @@ pub fn next_part(room: &mut [u8]) -> Part
     }
 }
 
-pub fn next_table() -> Handed {
+pub(crate) fn next_table() -> Handed {
     let mut counts = [0u8; 2];
     let mut rows = [0u8; Node::MOST * Node::ROW_BYTES];
     let mut records = [0u8; Flow::MOST * Flow::RECORD_BYTES];
@@ -84,7 +84,7 @@ pub fn next_table() -> Handed {
     }
 }
 
-pub fn next_place() -> Place {
+pub(crate) fn next_place() -> Place {
     let mut place = [0u8; 8];
     let came = fills(&mut place);
     let high = long_at(&place, 0) as usize;
@@ -96,7 +96,7 @@ pub fn next_place() -> Place {
     }
 }
 
-pub fn next_newcomer() -> Newcomer {
+pub(crate) fn next_newcomer() -> Newcomer {
     let mut record = [0u8; Flow::RECORD_BYTES];
     let mut plan = [0u8; Plan::MOST * Plan::STEP_BYTES];
     let came = fills(&mut record) & fills(&mut plan);

@@ -1,4 +1,5 @@
-// Answers requests to read, write, add and remove, so that a program in another language can try the four calls on anything.
+// Answers requests to read, write, add, remove and check, so that a program in another language can try the five calls on anything, and
+// see the bounds, which the calls for C do not hand out.
 //
 // Requests stand one behind the other on standard input, and their answers on standard output; numbers are big-endian. A request
 // is a byte for the call, and what the call is handed:
@@ -7,14 +8,16 @@
 //   2  write    a table, then a buffer
 //   3  add      a table, a place in eight bytes, the newcomer's record, and all step places of a plan
 //   4  remove   a table, then a place in eight bytes
+//   5  check    a slice
 //
 // A slice or a buffer is its length in two bytes, then its bytes. A table is n, m and all bytes of its rows, its records and its
-// steps, those of unused places too. An answer is the code in two bytes, the number in eight, then the table that the call returns
-// or, of write, the whole buffer. The program ends at any other call, at a request that is cut short, which gets no answer, or after
-// the most requests of a run.
+// steps, those of unused places too. An answer is the code in two bytes, the number in eight, then the table that the call returns;
+// of write, the whole buffer; of check, the bounds of all flow places in two bytes each. The program ends at any other call, at a
+// request that is cut short, which gets no answer, or after the most requests of a run.
 mod input;
 mod output;
 
+use bounds::acceptance::check;
 use changes::change::add;
 use changes::change::remove;
 use table::table::read;
@@ -74,6 +77,19 @@ fn answer_remove() -> bool {
     true
 }
 
+fn answer_check(room: &mut [u8]) -> bool {
+    let slice = input::next_part(room);
+    if !slice.came {
+        return false;
+    }
+    let len = slice.len;
+    let checked = check(&room[..len]);
+    let bounds = checked.bounds;
+    output::put_answer(checked.answer);
+    output::put_bounds(&bounds);
+    true
+}
+
 // Whether the next request came whole, and is answered.
 fn answer_next(room: &mut [u8]) -> bool {
     match input::next_call() {
@@ -81,6 +97,7 @@ fn answer_next(room: &mut [u8]) -> bool {
         2 => answer_write(room),
         3 => answer_add(),
         4 => answer_remove(),
+        5 => answer_check(room),
         _ => false,
     }
 }

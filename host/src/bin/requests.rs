@@ -1,4 +1,5 @@
-//! Asks the proved program `requests` and `plain` to read, write, add and remove the same, and compares all they answer.
+//! Asks the proved program `requests` and `plain` to read, write, add, remove and check the same, and compares all they answer, the
+//! bounds among it.
 //!
 //!     requests [--calls N] [--seed S]
 //!     requests again HEX          one request, from the words of a mismatch
@@ -48,6 +49,7 @@ fn compare(requests: u64, seed: u64) -> Result<(), String> {
     while tally.total() < requests {
         let (shape, draft) = of_round(dice, round);
         let mut all = asked::around(dice, &draft);
+        all.extend(asked::bounded(dice, shape));
         if round % 8 == 3 {
             let draft = accepted(dice, shape);
             all.extend(asked::aimed(dice, &draft));
@@ -58,7 +60,7 @@ fn compare(requests: u64, seed: u64) -> Result<(), String> {
         round += 1;
     }
     tally.close()?;
-    println!("{} requests on {round} books and damaged copies of them, all alike; every code met", tally.total());
+    println!("{} requests in {round} rounds, all alike; every code met", tally.total());
     Ok(())
 }
 
@@ -122,7 +124,8 @@ fn store(words: &[String]) -> Result<(), String> {
         Request::Write { table: table.clone(), buffer: dice.bytes(slice.len() + 1) },
         Request::Add { table: table.clone(), place: 1, record: flow.record(), plan: places(&flow.plan) },
         Request::Remove { table, place: 1 },
-        Request::Read { slice },
+        Request::Read { slice: slice.clone() },
+        Request::Check { slice },
     ];
     let input: Vec<u8> = requests.iter().flat_map(Request::bytes).collect();
     let output: Vec<u8> = requests.iter().flat_map(|request| request.reply_of_plain().bytes()).collect();

@@ -1,7 +1,10 @@
 //! One call with the memory it is lent, made on any planner, and what came of it.
 
 use crate::answer::*;
+use crate::limits::*;
+use crate::plain::run::slot_of;
 use crate::planner::Planner;
+use crate::tally::Answers;
 use std::fmt;
 
 #[derive(Clone, Copy, Debug, PartialEq, Eq)]
@@ -15,15 +18,20 @@ impl Kind {
     pub const ALL: [Kind; 3] = [Kind::Check, Kind::Start, Kind::Advance];
 
     pub fn name(self) -> &'static str {
-        ["check", "start", "advance"][self as usize]
+        self.answers().call
     }
 
-    /// The codes that the call can answer, in the order of their tests.
-    pub fn codes(self) -> &'static [u32] {
+    pub const fn answers(self) -> Answers {
         match self {
-            Kind::Check => &[DONE, 1, 2, 3, 4, 5, 6, 7, 8, NO_BOUND],
-            Kind::Start => &[DONE, 1, 2, 3, 4, 5, 6, 7, 8, NO_BOUND, SHORT_MEMORY],
-            Kind::Advance => &[DONE, 1, 2, 3, 4, 5, 6, 7, 8, SHORT_MEMORY, BAD_AREA, END_REACHED, UNFINISHED],
+            Kind::Check => Answers { call: "check", codes: &[DONE, 1, 2, 3, 4, 5, 6, 7, 8, NO_BOUND], twofold: &[] },
+            Kind::Start => {
+                Answers { call: "start", codes: &[DONE, 1, 2, 3, 4, 5, 6, 7, 8, NO_BOUND, SHORT_MEMORY], twofold: &[] }
+            }
+            Kind::Advance => Answers {
+                call: "advance",
+                codes: &[DONE, 1, 2, 3, 4, 5, 6, 7, 8, SHORT_MEMORY, BAD_AREA, END_REACHED, UNFINISHED],
+                twofold: &[(SHORT_MEMORY, ["area", "grants"]), (BAD_AREA, ["slot", "place"])],
+            },
         }
     }
 }
@@ -58,6 +66,16 @@ impl<'a> Call<'a> {
 
     pub fn advance(book: &'a [u8], area: &'a [u8], grants: &'a [u8]) -> Call<'a> {
         Call { kind: Kind::Advance, book, area, grants }
+    }
+
+    /// Which of the two reasons for a code holds of what is handed in; 0 where the code has but one. The area is tested ahead of the
+    /// grants, and its slot ahead of its places.
+    pub fn reason(&self, code: u32) -> usize {
+        usize::from(match (self.kind, code) {
+            (Kind::Advance, SHORT_MEMORY) => self.area.len() >= AREA_BYTES,
+            (Kind::Advance, BAD_AREA) => slot_of(self.area) <= u64::from(END_OF_SLOTS),
+            _ => false,
+        })
     }
 
     /// Makes the call on copies of the memory, each between two margins.

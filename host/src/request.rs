@@ -2,11 +2,13 @@
 //! answers.
 
 use crate::answer::*;
+use crate::call::Kind;
 use crate::limits::*;
 use crate::plain::book::{Record, Sections};
 use crate::plain::run::check;
 use crate::plain::table::{add, read, remove, write, Table, PLAN_BYTES};
 use crate::plain::{self, Refusal};
+use crate::tally::Answers;
 use std::fmt;
 use std::io::{self, Read};
 
@@ -22,13 +24,19 @@ pub enum Request {
     Check { slice: Vec<u8> },
 }
 
-/// The calls in the order of their numbers, each with the codes that it can answer, in the order of their tests.
-pub const CALLS: [(&str, &[u32]); 5] = [
-    ("read", &[DONE, 1, 2, 3, 4, 5, 6, 7, 8]),
-    ("write", &[DONE, 3, 5, 6, 8, SHORT_MEMORY]),
-    ("add", &[DONE, 3, 5, 6, 8, TABLE_FULL, BAD_PLACE, NO_BOUND]),
-    ("remove", &[DONE, 3, 5, 6, 8, BAD_PLACE]),
-    ("check", &[DONE, 1, 2, 3, 4, 5, 6, 7, 8, NO_BOUND]),
+const OLD_OR_NEW: [&str; 2] = ["old table", "new table"];
+
+/// The calls in the order of their numbers.
+pub const CALLS: [Answers; 5] = [
+    Answers { call: "read", codes: &[DONE, 1, 2, 3, 4, 5, 6, 7, 8], twofold: &[] },
+    Answers { call: "write", codes: &[DONE, 3, 5, 6, 8, SHORT_MEMORY], twofold: &[] },
+    Answers {
+        call: "add",
+        codes: &[DONE, 3, 5, BAD_RECORD, BAD_STEP, TABLE_FULL, BAD_PLACE, NO_BOUND],
+        twofold: &[(BAD_RECORD, OLD_OR_NEW), (BAD_STEP, OLD_OR_NEW)],
+    },
+    Answers { call: "remove", codes: &[DONE, 3, 5, 6, 8, BAD_PLACE], twofold: &[] },
+    Kind::Check.answers(),
 ];
 
 /// An answer, and the memory that comes with it: the table or the bounds that a call returns, or the whole buffer that was written.
@@ -88,6 +96,15 @@ impl Request {
             4 => Request::Remove { table: taken_table(bytes)?, place: u64::from_be_bytes(taken(bytes)?) },
             5 => Request::Check { slice: taken_part(bytes)? },
             _ => return Err(io::ErrorKind::InvalidData.into()),
+        })
+    }
+
+    /// Which of the two reasons for a code holds of what is handed in; 0 where the code has but one. The old table is tested ahead of
+    /// the new one.
+    pub fn reason(&self, code: u32) -> usize {
+        usize::from(match self {
+            Request::Add { table, .. } if [BAD_RECORD, BAD_STEP].contains(&code) => table.passes(),
+            _ => false,
         })
     }
 

@@ -1,12 +1,19 @@
-//! How often each call answered each of its codes.
+//! How often each call answered each of its codes and, where a call has two reasons for a code, for which of them.
 
 use crate::answer::CODES;
 
-/// A call's name, the codes that it can answer in the order of their tests, and how often it answered each.
+/// What a call can answer: its codes in the order of their tests, and what the two reasons are where it has two for a code.
+#[derive(Clone, Copy)]
+pub struct Answers {
+    pub call: &'static str,
+    pub codes: &'static [u32],
+    pub twofold: &'static [(u32, [&'static str; 2])],
+}
+
+/// How often a call answered each code, for the first of its reasons and for the second.
 struct Row {
-    call: &'static str,
-    codes: &'static [u32],
-    counts: [u64; CODES],
+    answers: Answers,
+    counts: [[u64; 2]; CODES],
 }
 
 pub struct Tally {
@@ -14,33 +21,53 @@ pub struct Tally {
 }
 
 impl Tally {
-    pub fn new(calls: impl IntoIterator<Item = (&'static str, &'static [u32])>) -> Tally {
-        Tally { rows: calls.into_iter().map(|(call, codes)| Row { call, codes, counts: [0; CODES] }).collect() }
+    pub fn new(calls: impl IntoIterator<Item = Answers>) -> Tally {
+        Tally { rows: calls.into_iter().map(|answers| Row { answers, counts: [[0; 2]; CODES] }).collect() }
     }
 
-    /// One more answer of the call at a place in the list.
-    pub fn count(&mut self, call: usize, code: u32) {
-        self.rows[call].counts[code as usize] += 1;
+    /// One more answer of the call at a place in the list, for the reason at a place among the two; 0 where there is but one.
+    pub fn count(&mut self, call: usize, code: u32, reason: usize) {
+        self.rows[call].counts[code as usize][reason] += 1;
     }
 
     pub fn total(&self) -> u64 {
-        self.rows.iter().flat_map(|row| row.counts).sum()
+        self.rows.iter().map(Row::total).sum()
     }
 
-    /// Prints a line for each call. Every code of every call must have been met.
+    /// Prints a line for each call. Every code of every call must have been met, for each of its reasons.
     pub fn close(&self) -> Result<(), String> {
         let mut missing = Vec::new();
-        for Row { call, codes, counts } in &self.rows {
-            let met = codes.iter().map(|&code| format!("{code}: {}", counts[code as usize]));
-            let all = counts.iter().sum::<u64>();
-            println!("  {call:7} {all} calls; by code {}", met.collect::<Vec<_>>().join(", "));
-            let unmet = codes.iter().filter(|&&code| counts[code as usize] == 0);
-            missing.extend(unmet.map(|code| format!("{call} {code}")));
+        for row in &self.rows {
+            let (call, met) = (row.answers.call, row.met());
+            let told: Vec<String> = met.iter().map(|(what, count)| format!("{what}: {count}")).collect();
+            println!("  {call:7} {} calls; by code {}", row.total(), told.join(", "));
+            missing.extend(met.iter().filter(|(_, count)| *count == 0).map(|(what, _)| format!("{call} {what}")));
         }
         if missing.is_empty() {
             Ok(())
         } else {
             Err(format!("codes that were never met: {}", missing.join(", ")))
         }
+    }
+}
+
+impl Row {
+    fn total(&self) -> u64 {
+        self.counts.iter().flatten().sum()
+    }
+
+    /// Each code, or each reason of a code that has two, in words, and how often it was met.
+    fn met(&self) -> Vec<(String, u64)> {
+        let mut met = Vec::new();
+        for &code in self.answers.codes {
+            let [first, second] = self.counts[code as usize];
+            match self.answers.twofold.iter().find(|(of, _)| *of == code) {
+                None => met.push((code.to_string(), first)),
+                Some((_, [one, other])) => {
+                    met.extend([(format!("{code} ({one})"), first), (format!("{code} ({other})"), second)])
+                }
+            }
+        }
+        met
     }
 }

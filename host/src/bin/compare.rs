@@ -26,7 +26,7 @@ fn main() -> ExitCode {
         println!("no such planner in this build: {} or {}", pair.0, pair.1);
         return ExitCode::FAILURE;
     };
-    let tally = Tally::new(Kind::ALL.map(|kind| (kind.name(), kind.codes())));
+    let tally = Tally::new(Kind::ALL.map(Kind::answers));
     let mut desk = Desk { a, b, tally };
     let outcome = if options.word("again") {
         again(&mut desk, options.rest())
@@ -45,7 +45,7 @@ fn main() -> ExitCode {
     }
 }
 
-/// Where the two planners meet, with a count for every call and code.
+/// Where the two planners meet, with a count for every call, code and reason.
 struct Desk {
     a: &'static dyn Planner,
     b: &'static dyn Planner,
@@ -59,7 +59,8 @@ impl Desk {
             let (a, b) = (self.a.name(), self.b.name());
             return Err(format!("MISMATCH\n  {a}: {ours}\n  {b}: {theirs}\n  to repeat: compare again {call}"));
         }
-        self.tally.count(call.kind as usize, code_of(ours.answer));
+        let code = code_of(ours.answer);
+        self.tally.count(call.kind as usize, code, call.reason(code));
         Ok(ours)
     }
 

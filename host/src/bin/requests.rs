@@ -60,7 +60,7 @@ fn compare(requests: u64, seed: u64) -> Result<(), String> {
         round += 1;
     }
     tally.close()?;
-    println!("{} requests in {round} rounds, all alike; every code met", tally.total());
+    println!("{} requests in {round} rounds, all alike; every code met, for each of its reasons", tally.total());
     Ok(())
 }
 
@@ -77,7 +77,7 @@ fn judge(tally: &mut Tally, asked: &Asked, answers: &mut impl Read) -> Result<()
     let theirs = request.reply_of_plain();
     let ours = request.reply_from(answers).map_err(|what| format!("NO ANSWER: {what}{}", again()))?;
     if let Some(what) = ours.unlike(&theirs) {
-        return Err(format!("MISMATCH in {}, proved and plain: {what}{}", CALLS[request.call()].0, again()));
+        return Err(format!("MISMATCH in {}, proved and plain: {what}{}", CALLS[request.call()].call, again()));
     }
     if let Some(wanted) = asked.wanted {
         let (code, number) = (code_of(wanted), number_of(wanted));
@@ -85,7 +85,7 @@ fn judge(tally: &mut Tally, asked: &Asked, answers: &mut impl Read) -> Result<()
             return Err(format!("WRONG ANSWER, both, {ours} where {code} {number} was aimed at{}", again()));
         }
     }
-    tally.count(request.call(), ours.code);
+    tally.count(request.call(), ours.code, request.reason(ours.code));
     Ok(())
 }
 

@@ -87,6 +87,11 @@ impl Facts {
     }
 }
 
+/// The slot to run next, at the front of a run area.
+pub fn slot_of(area: &[u8]) -> u64 {
+    area[..SLOT_BYTES].iter().fold(0, |high, &byte| 256 * high + u64::from(byte))
+}
+
 /// The run area: the slot to run next, and the steps done by each flow's latest instance.
 struct State {
     slot: u64,
@@ -96,7 +101,7 @@ struct State {
 impl State {
     /// Code 10: a bad slot ahead of a bad place.
     fn read(facts: &Facts, area: &[u8]) -> Result<State, Refusal> {
-        let slot = area[..SLOT_BYTES].iter().fold(0, |high, &byte| 256 * high + u64::from(byte));
+        let slot = slot_of(area);
         let done: Vec<usize> = area[SLOT_BYTES..AREA_BYTES].iter().map(|&byte| usize::from(byte)).collect();
         refuse_if(slot > u64::from(END_OF_SLOTS), BAD_AREA)?;
         refuse_first(BAD_AREA, MAX_FLOWS, |i| match facts.flows.get(i) {

@@ -31,6 +31,11 @@ impl Table {
         Sections { n, m, rows: &self.rows, records: &self.records, steps: &self.steps }
     }
 
+    /// Whether none of codes 3, 5, 6 and 8 is given for it.
+    pub fn passes(&self) -> bool {
+        self.test().is_ok()
+    }
+
     /// Codes 3, 5, 6 and 8; the used parts of a table that passes.
     fn test(&self) -> Result<Used, Refusal> {
         let sections = self.sections();

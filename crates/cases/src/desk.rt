@@ -20,7 +20,7 @@ use trade::Grant;
 use trade::Run;
 
 // Room for a run area with bytes behind it, and for the grants of two flows.
-pub const AREA: usize = Run::AREA_BYTES + 2;
+const AREA: usize = Run::AREA_BYTES + 2;
 
 const GRANTS: usize = 2 * Grant::BYTES;
 
@@ -32,14 +32,6 @@ pub(crate) struct Desk {
     pub area: [u8; AREA],
     // What the last call answered.
     pub answer: Answer,
-}
-
-// The bytes from a place on, or all.
-pub(crate) fn rest(s: &[u8], from: usize) -> &[u8] {
-    if s.len() < from {
-        return s;
-    }
-    &s[from..]
 }
 
 // The last bytes, or all.

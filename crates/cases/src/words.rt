@@ -6,7 +6,6 @@ use crate::books::B_BYTES;
 use crate::books::PLAN;
 use crate::books::RECORDS;
 use crate::desk::Desk;
-use crate::desk::rest;
 use crate::orders::Order;
 use crate::said::say_bounds;
 use crate::said::say_bytes;
@@ -17,6 +16,14 @@ use table::table::table_of;
 use trade::Flow;
 use trade::Node;
 use trade::Plan;
+
+// The bytes from a place on, or all.
+fn rest(s: &[u8], from: usize) -> &[u8] {
+    if s.len() < from {
+        return s;
+    }
+    &s[from..]
+}
 
 fn edited(t: Table, word: u8, at: usize, n: u8) -> Table {
     let mut table = t;

@@ -15,7 +15,7 @@ pub fn print(text: &[u8]) {
 }
 
 // One more number of a line.
-pub fn print_next(n: u64) {
+fn print_next(n: u64) {
     print(b" ");
     io::print_decimal(STDOUT_FILENO, n);
 }
@@ -36,13 +36,13 @@ pub fn print_answer(answer: Answer) {
 }
 
 // REFUSED code number
-pub fn print_refusal(answer: Answer) {
+pub(crate) fn print_refusal(answer: Answer) {
     print(b"REFUSED");
     print_answer(answer);
 }
 
 // BOOK n m
-pub fn print_book(nodes: usize, flows: usize) {
+pub(crate) fn print_book(nodes: usize, flows: usize) {
     print(b"BOOK");
     print_next(nodes as u64);
     print_next(flows as u64);
@@ -50,7 +50,7 @@ pub fn print_book(nodes: usize, flows: usize) {
 }
 
 // BOUND id R D
-pub fn print_bound(flow: Flow, bound: u16) {
+pub(crate) fn print_bound(flow: Flow, bound: u16) {
     print(b"BOUND");
     print_word(flow.id);
     print_word(bound);
@@ -59,7 +59,7 @@ pub fn print_bound(flow: Flow, bound: u16) {
 }
 
 // slot id instance step sender receiver, from the bytes of a grant
-pub fn print_grant(slot: Slot, grant: &[u8])
+pub(crate) fn print_grant(slot: Slot, grant: &[u8])
     requires { ⌜ grantBytes ≤ length (now grant) ⌝ }
 {
     io::print_decimal(STDOUT_FILENO, slot.0 as u64);

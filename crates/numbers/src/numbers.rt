@@ -13,7 +13,9 @@ pub fn word_at(s: &[u8], at: usize) -> u16
     requires { ⌜ at + 1 < length (now s) ⌝ }
     ensures { λ r. ⌜ r ≡ word (now (s .entry)) at ⌝ }
 {
-    (s[at] as u16) * 256 + (s[at + 1] as u16)
+    let high = s[at] as u16;
+    let low = s[at + 1] as u16;
+    high * 256 + low
 }
 
 // The four bytes from a place on.
@@ -21,7 +23,9 @@ pub fn long_at(s: &[u8], at: usize) -> u32
     requires { ⌜ at + 3 < length (now s) ⌝ }
     ensures { λ r. ⌜ r ≡ long (now (s .entry)) at ⌝ }
 {
-    (word_at(s, at) as u32) * WORDS + (word_at(s, at + 2) as u32)
+    let high = word_at(s, at) as u32;
+    let low = word_at(s, at + 2) as u32;
+    high * WORDS + low
 }
 
 // A number put into the two bytes from a place on.

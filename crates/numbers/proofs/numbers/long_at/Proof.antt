@@ -12,5 +12,5 @@ returns c = ap₂ (λ (high low : ℕ). high * 65536 + low) (c .before .word-at 
 
 pub long-at-spec : {M : Type 1} → statement M
 long-at-spec =
-    tie.close (tie.spec (λ c κs. search needs) (λ c. search needs) (λ c. search needs) (λ c. search needs) (λ c κs. search needs)
+    tie.close (tie.spec (λ c κs. search needs) (λ c. search needs) (λ c. search needs) (λ c κs. search needs) (λ c. search needs)
     (λ c. search needs) (λ c. search needs) returns)

@@ -1,4 +1,4 @@
--- `table::written::put_at` meets its contract: the part from the place on has the bytes in front. Assumes nothing.
+-- `numbers::pasting::put_at` meets its contract: the part from the place on has the bytes in front. Assumes nothing.
 use Prim.Native.Nat.{ℕ, _-_}
 use mathlib.Core.Path.{_∙_, ap}
 use mathlib.Core.List.{List}

@@ -14,14 +14,13 @@ use Rattle.trade.specs.Bytes.{word, twoBytes, over}
 use Rattle.trade.specs.Layout.{Sections, field}
 use Rattle.trade.specs.Facts.{factsOf, firstStep, allSteps}
 use Rattle.trade.specs.Table.{InMemory, used}
-use Rattle.trade.specs.Answers.{firstOf, noNumber}
 use Rattle.trade.specs.Exchange.{spliced, recut}
 use Rattle.trade.specs.Calls.{tableRules, recordOf, entering, leaving}
 use Rattle.trade.specs.declared.flow.Flow.{Flow}
 use Rattle.trade.proofs.First.{lt-or-ge}
 use Rattle.trade.proofs.Sums.{sum-rest, sum-most}
 use Rattle.trade.proofs.Bytes.{word-twoBytes}
-use Rattle.trade.proofs.Answers.{firstOf-passed}
+use Rattle.trade.proofs.Answers.{Passed}
 use Rattle.trade.proofs.Valid.{Valid, table-valid}
 use Rattle.trade.proofs.Places.{same-firstStep}
 use Rattle.trade.proofs.Used.{used-same, Holds, NoMore, used-full}
@@ -126,9 +125,9 @@ pub outgoing-is : (place : ℕ) → exchangeIn (outgoing place) ≡ leaving plac
 outgoing-is place = λ i. record { from = place; to = add-one place i; come = 0; records = []; steps = [] }
 
 -- EITHER may be done in a table that passed
-module _ (t : Sections) (memory : InMemory t) (passed : firstOf tableRules noNumber t .code ≡ 0) where
+module _ (t : Sections) (memory : InMemory t) (passed : Passed t tableRules) where
   valid : Valid (factsOf t)
-  valid = table-valid t (firstOf-passed tableRules noNumber t passed)
+  valid = table-valid t passed
 
   recuts : (x : Exchange) → Possible (t .flows) x → x .len ≤ sumTo (λ i. field (exchangeIn x .records) i 4) (x .come) → Recuts t x
   unfolding factsOf

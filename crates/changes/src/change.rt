@@ -7,8 +7,8 @@ use crate::cut::recut;
 use crate::rules::enter_answer;
 use crate::rules::leave_answer;
 use crate::rules::new_answer;
+use crate::rules::old_answer;
 use table::table::Table;
-use table::table::table_answer;
 use trade::Answer;
 use trade::Flow;
 use trade::Plan;
@@ -24,23 +24,10 @@ pub struct Changed {
 pub fn add(t: Table, place: usize, flow: Flow, plan: [u8; Plan::MOST * Plan::STEP_BYTES]) -> Changed
     ensures { λ r. ⌜ Adds (record { table = sectionsIn t; place = place; flow = flow; plan = plan }) r ⌝ }
 {
-    let old = table_answer(
-        t.nodes as usize,
-        t.flows as usize,
-        &t.rows,
-        &t.records,
-        &t.steps,
-    );
-    if old.code != 0 {
+    let asked = old_answer(t, enter_answer(t.flows as usize, place));
+    if asked.code != 0 {
         return Changed {
-            answer: old,
-            table: t,
-        };
-    }
-    let enter = enter_answer(t.flows as usize, place);
-    if enter.code != 0 {
-        return Changed {
-            answer: enter,
+            answer: asked,
             table: t,
         };
     }
@@ -63,30 +50,17 @@ pub fn add(t: Table, place: usize, flow: Flow, plan: [u8; Plan::MOST * Plan::STE
 pub fn remove(t: Table, place: usize) -> Changed
     ensures { λ r. ⌜ Removes (record { table = sectionsIn t; place = place }) r ⌝ }
 {
-    let old = table_answer(
-        t.nodes as usize,
-        t.flows as usize,
-        &t.rows,
-        &t.records,
-        &t.steps,
-    );
-    if old.code != 0 {
+    let asked = old_answer(t, leave_answer(t.flows as usize, place));
+    if asked.code != 0 {
         return Changed {
-            answer: old,
-            table: t,
-        };
-    }
-    let leave = leave_answer(t.flows as usize, place);
-    if leave.code != 0 {
-        return Changed {
-            answer: leave,
+            answer: asked,
             table: t,
         };
     }
     let x = Exchange::leaving(place);
     let table = recut(t.nodes, t.flows, &t.rows, &t.records, &t.steps, x);
     Changed {
-        answer: leave,
+        answer: asked,
         table,
     }
 }

@@ -1,4 +1,4 @@
-// The rules of a change behind those on the old table: where a flow comes in or which goes, and those on the new table.
+// The rules of a change: on the old table, on where a flow comes in or which goes, and on the new table.
 ghost use mathlib.Core.Path.{_≡_};
 ghost use mathlib.Core.List.{[], _∷_};
 ghost use Prim.Native.Nat.{_≤_};
@@ -9,11 +9,32 @@ ghost use Rattle.trade.specs.Table.{InMemory};
 ghost use Rattle.trade.specs.Answers.{firstOf, noNumber};
 ghost use Rattle.trade.specs.Codes.{code14, code15Adding, code15Removing};
 ghost use Rattle.trade.specs.Calls.{newRules};
+ghost use Rattle.table.specs.Table.{sectionsIn};
+ghost use Rattle.changes.specs.Change.{oldThen};
 use bounds::bounds::bounds_of;
 use sections::records::records_answer;
 use sections::steps::steps_answer;
+use table::table::Table;
+use table::table::table_answer;
 use trade::Answer;
 use trade::Flow;
+
+// Codes 3, 5, 6 and 8 on the old table, and where they pass what the place answers.
+pub(crate) fn old_answer(t: Table, place: Answer) -> Answer
+    ensures { λ r. ⌜ r ≡ oldThen (sectionsIn t) place ⌝ }
+{
+    let old = table_answer(
+        t.nodes as usize,
+        t.flows as usize,
+        &t.rows,
+        &t.records,
+        &t.steps,
+    );
+    if old.code != 0 {
+        return old;
+    }
+    place
+}
 
 // Codes 14 and 15 on where a flow comes in: the table is full, or the place is past the one behind its last flow.
 pub(crate) fn enter_answer(flows: usize, place: usize) -> Answer

@@ -1,15 +1,14 @@
--- `changes::change::remove` meets its contract: refused by the old table or by the place, or done. Assumes nothing.
+-- `changes::change::remove` meets its contract: refused by the old table or the place, or done. Assumes nothing.
 use mathlib.Core.Path.{_≡_, sym, _∙_, ap, transport}
 use native.Mathlib.Omega.{arith}
 use Rattle.trade.specs.Table.{InMemory, used, tableOf}
-use Rattle.trade.specs.Answers.{firstOf, noNumber}
 use Rattle.trade.specs.Exchange.{recut}
-use Rattle.trade.specs.Calls.{Removing, tableRules, leaveRules, removeAnswer, removeOf}
+use Rattle.trade.specs.Calls.{Removing, removeAnswer, removeOf}
 use Rattle.trade.specs.declared.answer.Answer.{Answer}
 use Rattle.table.specs.Table.{sectionsIn}
 use Rattle.changes.specs.Cut.{exchangeIn, Recuts}
 use Rattle.changes.specs.declared.cut.Exchange.{Exchange}
-use Rattle.changes.proofs.RulesLaws.{leave-count, remove-old, remove-leave}
+use Rattle.changes.proofs.RulesLaws.{leave-asked}
 use Rattle.changes.proofs.ChangeLaws.{leaves, gives, Leaves, leave-recuts, leave-made}
 use borrow.Author.Needs.{needs}
 use Rattle.changes.proofs.change.remove.Statement.{statement}
@@ -22,65 +21,45 @@ asked s = record { table = sectionsIn (s .args .t1); place = s .args .place }
 memory : (s : tie.Start) → InMemory (asked s .table)
 memory s = record { rows = search needs; records = search needs; steps = search needs }
 
--- the old table has been tested
-abbrev by-old : tie.After-table-answer → Removing
-by-old c = asked (c .before .before .before .before .before .before .before .before)
+-- the old table and the place have been tested, which gives the answer
+abbrev by-both : tie.After-old-answer → Removing
+by-both c = asked (c .before .before)
+
+answers : (c : tie.After-old-answer) → c .old-answer .result ≡ removeAnswer (by-both c)
+answers c = c .old-answer .ensures ∙ leave-asked (by-both c) (c .before .leave-answer .ensures)
 
 returns : tie.Need-returns
 unfolding removeOf
 returns c =
-    let tested = c .before .before in
-    let old = tested .table-answer .ensures in
-    let e = old ∙ sym (remove-old (by-old tested) (λ z. c .if1 .taken (ap (λ (r : Answer). r .code) old ∙ z))) in
+    let e = answers (c .before .before) in
     record { answer = e; table = leaves _ _ _ _ e (c .if1 .taken) }
 
--- and then the place, which gives the answer
-abbrev by-place : tie.After-leave-answer → Removing
-by-place c = by-old (c .before .before .before)
-
-passed : (c : tie.After-leave-answer) → firstOf tableRules noNumber (by-place c .table) .code ≡ 0
-passed c = sym (ap (λ (r : Answer). r .code) (c .before .before .before .table-answer .ensures)) ∙ c .before .if1 .left
-
-leave : (c : tie.After-leave-answer) → c .leave-answer .result ≡ firstOf leaveRules noNumber (by-place c)
-leave c = c .leave-answer .ensures ∙ sym (leave-count (by-place c))
-
-answers : (c : tie.After-leave-answer) → c .leave-answer .result ≡ removeAnswer (by-place c)
-answers c = leave c ∙ sym (remove-leave (by-place c) (passed c))
-
-returns-2 : tie.Need-returns-2
-unfolding removeOf
-returns-2 c =
-    let e = answers (c .before .before) in
-    record { answer = e; table = leaves _ _ _ _ e (c .if2 .taken) }
-
 -- so the flow may be taken out
-may : (c : tie.Else2) → Leaves (by-place (c .before .before))
+may : (c : tie.Else1) → Leaves (by-both (c .before .before))
 may c =
-    let tested = c .before .before in
     record {
-      memory = memory (tested .before .before .before .before .before .before .before .before .before .before .before);
-      old = passed tested;
-      left = sym (ap (λ (r : Answer). r .code) (leave tested)) ∙ c .if2 .left;
+      memory = memory (c .before .before .before .before);
+      asked = sym (ap (λ (r : Answer). r .code) (answers (c .before .before))) ∙ c .if1 .left;
     }
 
 leaving-requires : tie.Need-leaving-requires
 leaving-requires c κs =
-    let r = leave-recuts (by-place (c .before .before)) (may c) in
+    let r = leave-recuts (by-both (c .before .before)) (may c) in
     omega (arith, r .flows .within, r .flows .few)
 
-recuts : (c : tie.After-leaving) → Recuts (by-place (c .before .before .before) .table) (c .leaving .result)
+recuts : (c : tie.After-leaving) → Recuts (by-both (c .before .before .before) .table) (c .leaving .result)
 recuts c =
-    let r = by-place (c .before .before .before) in
+    let r = by-both (c .before .before .before) in
     transport (λ i. Recuts (r .table) (sym (c .leaving .ensures) i)) (leave-recuts r (may (c .before)))
 
 recut-requires : tie.Need-recut-requires
 recut-requires c κs = recuts (c .before .before .before .before .before .before .before)
 
-returns-3 : tie.Need-returns-3
+returns-2 : tie.Need-returns-2
 unfolding removeOf
-returns-3 c =
+returns-2 c =
     let x = c .before .before .before .before .before .before .before .before in
-    let r = by-place (x .before .before .before) in
+    let r = by-both (x .before .before .before) in
     let e = answers (x .before .before .before) in
     record {
       answer = e;
@@ -88,10 +67,10 @@ returns-3 c =
           c .recut .ensures
           ∙ ap (λ (y : Exchange). tableOf (recut (used (r .table)) (exchangeIn y))) (x .leaving .ensures)
           ∙ ap tableOf (leave-made r)
-          ∙ gives _ _ _ _ e (x .before .if2 .left);
+          ∙ gives _ _ _ _ e (x .before .if1 .left);
     }
 
 pub remove-spec : {M : Type 1} → statement M
 remove-spec =
-    tie.close (tie.spec (λ c. search needs) (λ c. search needs) (λ c κs. search needs) returns (λ c. search needs)
-    (λ c κs. search needs) returns-2 leaving-requires recut-requires returns-3)
+    tie.close (tie.spec (λ c. search needs) (λ c κs. search needs) (λ c κs. search needs) returns leaving-requires recut-requires
+    returns-2)

@@ -152,13 +152,13 @@ bit-lowFirst bytes small (suc k) at y h = ⊎-elim low (next (λ z l. bit-lowFir
         ∙ rest z (omega arith)
         ∙ ap₂ (λ (i b : ℕ). bit (byte bytes i) b) there same
 
-pub lowFirst-lt : (bytes : List ℕ) → ((i : ℕ) → byte bytes i < 2 ^ 8) → (k at : ℕ) → lowFirst bytes at k < (2 ^ 8) ^ k
+lowFirst-lt : (bytes : List ℕ) → ((i : ℕ) → byte bytes i < 2 ^ 8) → (k at : ℕ) → lowFirst bytes at k < (2 ^ 8) ^ k
 unfolding lowFirst
 lowFirst-lt bytes small zero at = omega arith
 lowFirst-lt bytes small (suc k) at = rw (pow-suc (2 ^ 8) k) (digits-lt (lowFirst-lt bytes small k (suc at)) (small at))
 
 -- a run of bytes in two parts
-pub lowFirst-split :
+lowFirst-split :
     (bytes : List ℕ) (j k at : ℕ)
     → lowFirst bytes at (j + k) ≡ lowFirst bytes (at + j) k * (2 ^ 8) ^ j + lowFirst bytes at j
 unfolding lowFirst
@@ -167,9 +167,18 @@ lowFirst-split bytes (suc j) k at =
     let e : suc at + j ≡ at + suc j = omega arith in
     rw (suc-add j k, pow-suc (2 ^ 8) j, lowFirst-split bytes j k (suc at), e, ← mul-assoc (lowFirst bytes (at + suc j) k) ((2 ^ 8) ^ j) (2 ^ 8)) (omega arith)
 
-pub lowFirst-one : (bytes : List ℕ) (at : ℕ) → lowFirst bytes at 1 ≡ byte bytes at
+-- a run of one byte
+pub one-byte : (bytes : List ℕ) (at : ℕ) → byte bytes at ≡ lowFirst bytes at 1
 unfolding lowFirst
-lowFirst-one bytes at = omega arith
+one-byte bytes at = omega arith
+
+-- TWO HALVES of k bytes each: either fits in so many, and put together they are the whole
+module _ (bytes : List ℕ) (k at : ℕ) {high low : ℕ} (h : high ≡ lowFirst bytes (at + k) k) (l : low ≡ lowFirst bytes at k) where
+  pub halves-fit : ((i : ℕ) → byte bytes i < 2 ^ 8) → (high < (2 ^ 8) ^ k) × (low < (2 ^ 8) ^ k)
+  halves-fit small = rw (h, l) (lowFirst-lt bytes small k (at + k), lowFirst-lt bytes small k at)
+
+  pub halves-joined : high * (2 ^ 8) ^ k + low ≡ lowFirst bytes at (k + k)
+  halves-joined = rw (h, l) (sym (lowFirst-split bytes k k at))
 
 -- a row has the nodes that are disturbed
 pub bit-row : (rows : List ℕ) → ((i : ℕ) → byte rows i < 2 ^ 8) → (x y : ℕ) → y < mostNodes → bit (rowMask rows x) y ≡ disturbsIn rows x y

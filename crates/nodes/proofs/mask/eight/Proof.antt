@@ -1,33 +1,23 @@
 -- `nodes::mask::eight` joins two halves, each of which fits. Assumes nothing.
-use mathlib.Core.Path.{sym, _∙_, ap₂}
-use Prim.Native.Nat.{ℕ, _+_, _*_, _^_}
+use mathlib.Core.Path.{_∙_}
 use native.Mathlib.Omega.{arith}
-use Rattle.nodes.proofs.MaskLaws.{lowFirst-lt, lowFirst-split}
+use Rattle.nodes.proofs.MaskLaws.{halves-fit, halves-joined}
 use borrow.Author.Needs.{needs}
 use Rattle.nodes.proofs.mask.eight.Statement.{statement}
 use Rattle.nodes.proofs.mask.eight.Tie as tie
 
-add-four : tie.Need-add-four
-add-four c = search needs
-
-four-requires : tie.Need-four-requires
-four-requires c κs = search needs
-
-four-requires-2 : tie.Need-four-requires-2
-four-requires-2 c κs = search needs
-
 joined-requires : tie.Need-joined-requires
 joined-requires c κs =
-    let start = c .before .before .before in
-    let small = lowFirst-lt (start .args .bytes .now) (λ i. omega (arith, c .before .before .shared-slice-known .given i)) 4 in
-    omega (arith, c .four2 .ensures, c .before .four .ensures, small (start .args .at), small (start .args .at + 4))
+    let args = c .before .before .before .args in
+    let fit =
+    halves-fit (args .bytes .now) 4 (args .at) (c .before .four .ensures) (c .four2 .ensures)
+    (λ i. omega (arith, c .before .before .shared-slice-known .given i)) in
+    omega arith
 
 returns : tie.Need-returns
 returns c =
     let args = c .before .before .before .before .args in
-    c .joined .ensures
-    ∙ ap₂ (λ (h l : ℕ). h * 2 ^ 32 + l) (c .before .before .four .ensures) (c .before .four2 .ensures)
-    ∙ sym (lowFirst-split (args .bytes .now) 4 4 (args .at))
+    c .joined .ensures ∙ halves-joined (args .bytes .now) 4 (args .at) (c .before .before .four .ensures) (c .before .four2 .ensures)
 
 pub eight-spec : {M : Type 1} → statement M
-eight-spec = tie.close (tie.spec add-four four-requires four-requires-2 joined-requires returns)
+eight-spec = tie.close (tie.spec (λ c. search needs) (λ c κs. search needs) (λ c κs. search needs) joined-requires returns)

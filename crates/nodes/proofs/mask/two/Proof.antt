@@ -1,8 +1,8 @@
 -- `nodes::mask::two` joins two bytes. Assumes nothing.
-use mathlib.Core.Path.{sym, _∙_}
+use mathlib.Core.Path.{_∙_}
 use Prim.Native.Nat.{_+_}
 use native.Mathlib.Omega.{arith}
-use Rattle.nodes.proofs.MaskLaws.{lowFirst-one, lowFirst-split}
+use Rattle.nodes.proofs.MaskLaws.{one-byte, halves-joined}
 use borrow.Author.Needs.{needs}
 use Rattle.nodes.proofs.mask.two.Statement.{statement}
 use Rattle.nodes.proofs.mask.two.Tie as tie
@@ -21,7 +21,7 @@ joined-requires c κs =
 returns : tie.Need-returns
 returns c =
     let args = c .before .before .before .before .args in
-    c .joined .ensures ∙ sym (rw (lowFirst-split (args .bytes .now) 1 1 (args .at), lowFirst-one (args .bytes .now) (args .at + 1), lowFirst-one (args .bytes .now) (args .at)))
+    c .joined .ensures ∙ halves-joined (args .bytes .now) 1 (args .at) (one-byte _ (args .at + 1)) (one-byte _ (args .at))
 
 pub two-spec : {M : Type 1} → statement M
 two-spec =

@@ -1,7 +1,7 @@
 -- The parts of a slice that lie as its trailer says are its sections; and codes 1 to 4 are those of its trailer. Leans on nothing.
 -- Assumes nothing.
 use Prim.Native.Nat.{ℕ, _+_, _-_, _*_, _≤_, _<_}
-use mathlib.Core.Path.{_≡_, refl, sym, _∙_, ap, ap₂}
+use mathlib.Core.Path.{_≡_, refl, sym, _∙_, ap}
 use mathlib.Core.Bool.{Bool, true, false, cond, not, _||_}
 use mathlib.Core.List.{List, []}
 use native.Mathlib.Omega.{arith}
@@ -31,17 +31,21 @@ module _ (slice : List ℕ) (f : Frame) (l : Lies slice f) where
   at : (g : Frame → ℕ) → g f ≡ g (frameOf slice)
   at g = ap g (l .frame)
 
+  -- a part that starts where the frame says, and is as long
+  part-lies :
+      (start size : Frame → ℕ) (to : ℕ)
+      → to - start f ≡ size f
+      → take (to - start f) (drop (start f) slice) ≡ take (size (frameOf slice)) (drop (start (frameOf slice)) slice)
+  part-lies start size to e =
+      ap (λ (n : ℕ). take n (drop (start f) slice)) e ∙ ap (λ (g : Frame). take (size g) (drop (start g) slice)) (l .frame)
+
   pub rows-lie : take (f .records - f .rows) (drop (f .rows) slice) ≡ sectionsOf slice .rows
   unfolding sectionsOf part frameOf
-  rows-lie =
-      let e : f .records - f .rows ≡ rowBytes * f .nodes = omega (arith, l .rows) in
-      rw e (ap₂ (λ (n r : ℕ). take (rowBytes * n) (drop r slice)) (at (λ g. g .nodes)) (at (λ g. g .rows)))
+  rows-lie = part-lies (λ g. g .rows) (λ g. rowBytes * g .nodes) (f .records) (omega (arith, l .rows))
 
   pub records-lie : take (f .steps - f .records) (drop (f .records) slice) ≡ sectionsOf slice .records
   unfolding sectionsOf part frameOf
-  records-lie =
-      let e : f .steps - f .records ≡ recordBytes * f .flows = omega (arith, l .records) in
-      rw e (ap₂ (λ (m r : ℕ). take (recordBytes * m) (drop r slice)) (at (λ g. g .flows)) (at (λ g. g .records)))
+  records-lie = part-lies (λ g. g .records) (λ g. recordBytes * g .flows) (f .steps) (omega (arith, l .records))
 
   apart : f .end - f .steps ≡ stepsDistance slice - trailerBytes
   unfolding frameOf
@@ -49,7 +53,7 @@ module _ (slice : List ℕ) (f : Frame) (l : Lies slice f) where
 
   pub steps-lie : take (f .end - f .steps) (drop (f .steps) slice) ≡ sectionsOf slice .steps
   unfolding sectionsOf part frameOf
-  steps-lie = rw apart (ap (λ (r : ℕ). take (stepsDistance slice - trailerBytes) (drop r slice)) (at (λ g. g .steps)))
+  steps-lie = part-lies (λ g. g .steps) (λ g. stepsDistance slice - trailerBytes) (f .end) apart
 
   -- the sections are as long as the counts say
   length-between : (a b : ℕ) → a ≤ b → b ≤ length slice → length (take (b - a) (drop a slice)) ≡ b - a

@@ -8,6 +8,7 @@ use bounds::acceptance::check;
 use changes::change::Changed;
 use changes::change::add;
 use changes::change::remove;
+use numbers::numbers::WORDS;
 use numbers::pasting::put_at;
 use run::advance::advance;
 use run::start::start;
@@ -41,6 +42,11 @@ fn last(s: &mut [u8], n: usize) -> &mut [u8] {
     }
     let from = s.len() - n;
     &mut s[from..]
+}
+
+// What two bytes hold of a number.
+fn word(n: usize) -> u16 {
+    (n % (WORDS as usize)) as u16
 }
 
 // How many bytes agree, from the front on.
@@ -122,11 +128,11 @@ impl Desk {
         let mut plan = PLAN;
         plan[0] = (order.n % 256) as u8;
         let flow = Flow {
-            id: (order.n4 % 65_536) as u16,
+            id: word(order.n4),
             phase: 0,
-            period: (order.n3 % 65_536) as u16,
-            deadline: (order.n2 % 65_536) as u16,
-            len: (order.n1 % 65_536) as u16,
+            period: word(order.n3),
+            deadline: word(order.n2),
+            len: word(order.n1),
         };
         self.changed(add(self.table, order.n5, flow, plan))
     }

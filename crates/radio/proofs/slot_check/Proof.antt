@@ -7,9 +7,6 @@ use Rattle.radio.proofs.Packing.{fits, packs}
 use Rattle.radio.proofs.slot_check.Statement.{statement}
 use Rattle.radio.proofs.slot_check.Tie as tie
 
-check-requires : tie.Need-check-requires
-check-requires c κs = search needs
-
 packed-requires : tie.Need-packed-requires
 unfolding checkBy
 packed-requires c κs = fits (c .before .check .ensures .answer) (check-number measure _)
@@ -18,4 +15,4 @@ returns : tie.Need-returns
 returns c = record { answer = packs (c .packed .ensures) (c .before .before .check .ensures .answer) }
 
 pub slot-check-spec : {M : Type 1} → statement M
-slot-check-spec = tie.close (tie.spec check-requires packed-requires returns)
+slot-check-spec = tie.close (tie.spec (λ c κs. search needs) packed-requires returns)

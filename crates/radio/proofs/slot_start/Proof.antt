@@ -7,15 +7,9 @@ use Rattle.radio.proofs.Packing.{fits, packs}
 use Rattle.radio.proofs.slot_start.Statement.{statement}
 use Rattle.radio.proofs.slot_start.Tie as tie
 
-start-requires : tie.Need-start-requires
-start-requires c κs = search needs
-
 packed-requires : tie.Need-packed-requires
 unfolding startBy
 packed-requires c κs = fits (c .before .before .start .ensures .answer) (start-number measure _)
-
-same-length : tie.Need-same-length
-same-length c = search needs
 
 returns : tie.Need-returns
 returns c =
@@ -25,4 +19,4 @@ returns c =
     }
 
 pub slot-start-spec : {M : Type 1} → statement M
-slot-start-spec = tie.close (tie.spec start-requires packed-requires same-length returns)
+slot-start-spec = tie.close (tie.spec (λ c κs. search needs) packed-requires (λ c. search needs) returns)

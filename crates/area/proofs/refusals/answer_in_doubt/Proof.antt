@@ -8,17 +8,8 @@ use Rattle.area.proofs.refusals.answer_in_doubt.Lts as lts
 use Rattle.area.proofs.refusals.run_answer.Reads as run-answer-reads
 use Rattle.trade.proofs.answer.Answer.done.Reads as done-reads
 
-run-answer-requires : tie.Need-run-answer-requires
-run-answer-requires c κs = search needs
-
-returns : tie.Need-returns
-returns c = search needs
-
-done-requires : tie.Need-done-requires
-done-requires c κs = search needs
-
 returns-2 : tie.Need-returns-2
 returns-2 c = c .done .ensures ∙ sym (c .before .before .before .pre .1 (c .before .if1 .left))
 
 pub answer-in-doubt-spec : {M : Type 1} → statement M
-answer-in-doubt-spec = tie.close (tie.spec run-answer-requires returns done-requires returns-2)
+answer-in-doubt-spec = tie.close (tie.spec (λ c κs. search needs) (λ c. search needs) (λ c κs. search needs) returns-2)

@@ -4,12 +4,9 @@ use borrow.Author.Needs.{needs}
 use Rattle.area.proofs.refusals.is_bad.Statement.{statement}
 use Rattle.area.proofs.refusals.is_bad.Tie as tie
 
-cast-done : tie.Need-cast-done
-cast-done c = search needs
-
 returns : tie.Need-returns
 unfolding badAt
 returns c = search needs
 
 pub is-bad-spec : {M : Type 1} → statement M
-is-bad-spec = tie.close (tie.spec cast-done returns)
+is-bad-spec = tie.close (tie.spec (λ c. search needs) returns)

@@ -13,12 +13,6 @@ returns : tie.Need-returns
 unfolding badPlaceAt badPlace factsOf
 returns c = rw (le-ltb (c .before .before .before .args .i) (c .before .before .before .args .flows) (c .before .if1 .taken))
 
-record-at-requires : tie.Need-record-at-requires
-record-at-requires c κs = search needs
-
-is-bad-requires : tie.Need-is-bad-requires
-is-bad-requires c κs = search needs
-
 returns-2 : tie.Need-returns-2
 unfolding badPlaceAt badPlace badAt factsOf flowIn
 returns-2 c =
@@ -28,4 +22,4 @@ returns-2 c =
     ∙ rw (lt-ltb (a .i) (a .flows) (c .before .before .if1 .left))
 
 pub is-bad-place-spec : {M : Type 1} → statement M
-is-bad-place-spec = tie.close (tie.spec returns record-at-requires is-bad-requires returns-2)
+is-bad-place-spec = tie.close (tie.spec returns (λ c κs. search needs) (λ c κs. search needs) returns-2)

@@ -7,12 +7,6 @@ use borrow.Author.Needs.{needs}
 use Rattle.area.proofs.refusals.is_overrun.Statement.{statement}
 use Rattle.area.proofs.refusals.is_overrun.Tie as tie
 
-is-released-requires : tie.Need-is-released-requires
-is-released-requires c κs = search needs
-
-cast-result : tie.Need-cast-result
-cast-result c = search needs
-
 returns : tie.Need-returns
 unfolding overrunAt
 returns c =
@@ -20,4 +14,4 @@ returns c =
     ap (λ (b : Bool). b && ltb (a .p .done .0) (a .flow .len)) (c .before .before .is-released .ensures)
 
 pub is-overrun-spec : {M : Type 1} → statement M
-is-overrun-spec = tie.close (tie.spec is-released-requires cast-result returns)
+is-overrun-spec = tie.close (tie.spec (λ c κs. search needs) (λ c. search needs) returns)

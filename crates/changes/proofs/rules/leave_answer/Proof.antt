@@ -8,19 +8,13 @@ use Rattle.trade.specs.Codes.{code15Removing}
 use Rattle.changes.proofs.rules.leave_answer.Statement.{statement}
 use Rattle.changes.proofs.rules.leave_answer.Tie as tie
 
-refused-requires : tie.Need-refused-requires
-refused-requires c κs = search needs
-
 returns : tie.Need-returns
 unfolding code15Removing given factsOf
 returns c = c .refused .ensures ∙ rw (le-leb _ _ (c .before .if1 .taken))
-
-done-requires : tie.Need-done-requires
-done-requires c κs = search needs
 
 returns-2 : tie.Need-returns-2
 unfolding code15Removing given factsOf
 returns-2 c = c .done .ensures ∙ rw (lt-leb _ _ (c .before .if1 .left))
 
 pub leave-answer-spec : {M : Type 1} → statement M
-leave-answer-spec = tie.close (tie.spec refused-requires returns done-requires returns-2)
+leave-answer-spec = tie.close (tie.spec (λ c κs. search needs) returns (λ c κs. search needs) returns-2)

@@ -11,12 +11,6 @@ use borrow.Author.Needs.{needs}
 use Rattle.figures.proofs.figures.figures_at.Statement.{statement}
 use Rattle.figures.proofs.figures.figures_at.Tie as tie
 
-figures-of-requires : tie.Need-figures-of-requires
-figures-of-requires c κs = search needs
-
-returns : tie.Need-returns
-returns c = search needs
-
 figures-in-requires : tie.Need-figures-in-requires
 figures-in-requires c κs =
     let s = c .before .before .before .before .before in
@@ -31,4 +25,4 @@ returns-2 c =
     (omega (arith, s .pre .0 .most)) (s .pre .1 (omega arith) .line)
 
 pub figures-at-spec : {M : Type 1} → statement M
-figures-at-spec = tie.close (tie.spec figures-of-requires returns figures-in-requires returns-2)
+figures-at-spec = tie.close (tie.spec (λ c κs. search needs) (λ c. search needs) figures-in-requires returns-2)

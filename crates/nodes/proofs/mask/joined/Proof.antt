@@ -6,11 +6,8 @@ use borrow.Author.Needs.{needs}
 use Rattle.nodes.proofs.mask.joined.Statement.{statement}
 use Rattle.nodes.proofs.mask.joined.Tie as tie
 
-shl-result : tie.Need-shl-result
-shl-result c = search needs
-
 returns : tie.Need-returns
 returns c = rw (mod-eq-of-lt (c .pre .2)) (or-shifted (c .args .high) (c .args .bits) (c .args .low) (c .pre .1))
 
 pub joined-spec : {M : Type 1} → statement M
-joined-spec = tie.close (tie.spec shl-result returns)
+joined-spec = tie.close (tie.spec (λ c. search needs) returns)

@@ -6,12 +6,6 @@ use borrow.Author.Needs.{needs}
 use Rattle.pairs.proofs.columns.with_mark.Statement.{statement}
 use Rattle.pairs.proofs.columns.with_mark.Tie as tie
 
-shl-mark : tie.Need-shl-mark
-shl-mark c = search needs
-
-wrapping-sub-u64-requires : tie.Need-wrapping-sub-u64-requires
-wrapping-sub-u64-requires c κs = search needs
-
 returns : tie.Need-returns
 returns c =
     let args = c .before .args in
@@ -19,4 +13,4 @@ returns c =
     rw mark (marked (args .p) (c .wrapping-sub-u64 .result) (args .set) (c .before .pre) (omega arith) (omega arith) (rw mark at (c .wrapping-sub-u64 .ensures)))
 
 pub with-mark-spec : {M : Type 1} → statement M
-with-mark-spec = tie.close (tie.spec shl-mark wrapping-sub-u64-requires returns)
+with-mark-spec = tie.close (tie.spec (λ c. search needs) (λ c κs. search needs) returns)

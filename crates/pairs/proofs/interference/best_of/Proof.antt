@@ -7,9 +7,6 @@ use Rattle.pairs.proofs.InterferenceLaws.{byte-one, one-le}
 use Rattle.pairs.proofs.interference.best_of.Statement.{statement}
 use Rattle.pairs.proofs.interference.best_of.Tie as tie
 
-cast-here : tie.Need-cast-here
-cast-here c = search needs
-
 add-here : tie.Need-add-here
 add-here c = rw byte-one (omega (arith, one-le (c .args .marked)))
 
@@ -20,4 +17,4 @@ returns-2 : tie.Need-returns-2
 returns-2 c = sym (max-eq-right (omega (arith, byte-one (c .before .args .marked))))
 
 pub best-of-spec : {M : Type 1} → statement M
-best-of-spec = tie.close (tie.spec cast-here add-here returns returns-2)
+best-of-spec = tie.close (tie.spec (λ c. search needs) add-here returns returns-2)

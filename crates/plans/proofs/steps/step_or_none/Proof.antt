@@ -6,12 +6,6 @@ use Rattle.plans.proofs.StepsLaws.{step-held, step-missing}
 use Rattle.plans.proofs.steps.step_or_none.Statement.{statement}
 use Rattle.plans.proofs.steps.step_or_none.Tie as tie
 
-step-count-requires : tie.Need-step-count-requires
-step-count-requires c κs = search needs
-
-step-at-requires : tie.Need-step-at-requires
-step-at-requires c κs = search needs
-
 returns : tie.Need-returns
 returns c = c .step-at .ensures ∙ sym (step-held _ _ (omega arith))
 
@@ -19,4 +13,4 @@ returns-2 : tie.Need-returns-2
 returns-2 c = sym (step-missing _ _ (omega arith))
 
 pub step-or-none-spec : {M : Type 1} → statement M
-step-or-none-spec = tie.close (tie.spec step-count-requires step-at-requires returns returns-2)
+step-or-none-spec = tie.close (tie.spec (λ c κs. search needs) (λ c κs. search needs) returns returns-2)

@@ -7,15 +7,6 @@ use borrow.Author.Needs.{needs}
 use Rattle.sections.proofs.at_once.is_off.Statement.{statement}
 use Rattle.sections.proofs.at_once.is_off.Tie as tie
 
-both-at-requires : tie.Need-both-at-requires
-both-at-requires c κs = search needs
-
-sub-both-at : tie.Need-sub-both-at
-sub-both-at c = search needs
-
-both-at-requires-2 : tie.Need-both-at-requires-2
-both-at-requires-2 c κs = search needs
-
 returns : tie.Need-returns
 unfolding off own unjoined repeats goesOn
 returns c =
@@ -30,4 +21,4 @@ returns c =
     ) refl
 
 pub is-off-spec : {M : Type 1} → statement M
-is-off-spec = tie.close (tie.spec both-at-requires sub-both-at both-at-requires-2 returns)
+is-off-spec = tie.close (tie.spec (λ c κs. search needs) (λ c. search needs) (λ c κs. search needs) returns)

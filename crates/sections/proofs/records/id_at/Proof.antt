@@ -6,14 +6,8 @@ use Rattle.sections.proofs.RecordsLaws.{field-first}
 use Rattle.sections.proofs.records.id_at.Statement.{statement}
 use Rattle.sections.proofs.records.id_at.Tie as tie
 
-mul-word-at : tie.Need-mul-word-at
-mul-word-at c = search needs
-
-word-at-requires : tie.Need-word-at-requires
-word-at-requires c κs = search needs
-
 returns : tie.Need-returns
 returns c = c .word-at .ensures ∙ field-first (now (c .before .before .args .records)) (c .before .before .args .i)
 
 pub id-at-spec : {M : Type 1} → statement M
-id-at-spec = tie.close (tie.spec mul-word-at word-at-requires returns)
+id-at-spec = tie.close (tie.spec (λ c. search needs) (λ c κs. search needs) returns)

@@ -4,14 +4,8 @@ use borrow.Author.Needs.{needs}
 use Rattle.sections.proofs.records.is_repeat.Statement.{statement}
 use Rattle.sections.proofs.records.is_repeat.Tie as tie
 
-id-before-requires : tie.Need-id-before-requires
-id-before-requires c κs = search needs
-
-returns : tie.Need-returns
-returns c = search needs
-
 returns-2 : tie.Need-returns-2
 returns-2 c = sym (c .before .before .pre .1 (c .if1 .left))
 
 pub is-repeat-spec : {M : Type 1} → statement M
-is-repeat-spec = tie.close (tie.spec id-before-requires returns returns-2)
+is-repeat-spec = tie.close (tie.spec (λ c κs. search needs) (λ c. search needs) returns-2)

@@ -7,12 +7,6 @@ use borrow.Author.Needs.{needs}
 use Rattle.sections.proofs.rows.has_above.Statement.{statement}
 use Rattle.sections.proofs.rows.has_above.Tie as tie
 
-sub-result : tie.Need-sub-result
-sub-result c = search needs
-
-shr-result : tie.Need-shr-result
-shr-result c = search needs
-
 returns : tie.Need-returns
 returns c =
     let a = c .args in
@@ -20,4 +14,4 @@ returns c =
     rw (shr-shr (a .set) (a .nodes - 1) 1, e) refl
 
 pub has-above-spec : {M : Type 1} → statement M
-has-above-spec = tie.close (tie.spec sub-result shr-result returns)
+has-above-spec = tie.close (tie.spec (λ c. search needs) (λ c. search needs) returns)

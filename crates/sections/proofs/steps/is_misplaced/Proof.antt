@@ -5,15 +5,9 @@ use borrow.Author.Needs.{needs}
 use Rattle.sections.proofs.steps.is_misplaced.Statement.{statement}
 use Rattle.sections.proofs.steps.is_misplaced.Tie as tie
 
-cast-a : tie.Need-cast-a
-cast-a c = search needs
-
-cast-b : tie.Need-cast-b
-cast-b c = search needs
-
 returns : tie.Need-returns
 unfolding misplaced
 returns c = refl
 
 pub is-misplaced-spec : {M : Type 1} → statement M
-is-misplaced-spec = tie.close (tie.spec cast-a cast-b returns)
+is-misplaced-spec = tie.close (tie.spec (λ c. search needs) (λ c. search needs) returns)

@@ -9,9 +9,6 @@ use Rattle.slot.proofs.granting.grant_of.Reads as reads
 use Rattle.slot.proofs.granting.grant_of.Lts as lts
 use Rattle.slot.proofs.release.instance_at.Reads as instance-at-reads
 
-instance-at-requires : tie.Need-instance-at-requires
-instance-at-requires c κs = search needs
-
 returns : tie.Need-returns
 unfolding grantBy
 returns c =
@@ -19,4 +16,4 @@ returns c =
     ap (λ (v : Instance). record { id = a .flow .id; instance = v; step = a .done; transmission = a .step }) (λ t. record { 0 = c .instance-at .ensures t })
 
 pub grant-of-spec : {M : Type 1} → statement M
-grant-of-spec = tie.close (tie.spec instance-at-requires returns)
+grant-of-spec = tie.close (tie.spec (λ c κs. search needs) returns)

@@ -15,12 +15,9 @@ returns c =
     let none : a .slot .0 - a .first .0 ≡ 0 = omega arith in
     rw none (sym (zero-div (a .period)))
 
-div-t7 : tie.Need-div-t7
-div-t7 c = search needs
-
 returns-2 : tie.Need-returns-2
 unfolding instanceBy
 returns-2 c = refl
 
 pub instance-at-spec : {M : Type 1} → statement M
-instance-at-spec = tie.close (tie.spec returns div-t7 returns-2)
+instance-at-spec = tie.close (tie.spec returns (λ c. search needs) returns-2)

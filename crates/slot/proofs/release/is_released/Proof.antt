@@ -9,12 +9,9 @@ returns : tie.Need-returns
 unfolding releasedAt
 returns c = simp (lt-leb _ _ (c .if1 .taken))
 
-rem-result : tie.Need-rem-result
-rem-result c = search needs
-
 returns-2 : tie.Need-returns-2
 unfolding releasedAt
 returns-2 c = simp (le-leb _ _ (c .before .before .if1 .left))
 
 pub is-released-spec : {M : Type 1} → statement M
-is-released-spec = tie.close (tie.spec returns rem-result returns-2)
+is-released-spec = tie.close (tie.spec returns (λ c. search needs) returns-2)

@@ -8,12 +8,6 @@ use borrow.Author.Needs.{needs}
 use Rattle.changes.proofs.cut.Exchange.entering.Statement.{statement}
 use Rattle.changes.proofs.cut.Exchange.entering.Tie as tie
 
-cast-len : tie.Need-cast-len
-cast-len c = search needs
-
-record-bytes-requires : tie.Need-record-bytes-requires
-record-bytes-requires c κs = search needs
-
 returns : tie.Need-returns
 returns c =
     let a = c .before .before .before .args in
@@ -21,4 +15,4 @@ returns c =
     λ i. record { from = a .place; to = a .place; come = 1; len = short i; records = c .record-bytes .ensures i; steps = a .plan }
 
 pub entering-spec : {M : Type 1} → statement M
-entering-spec = tie.close (tie.spec cast-len record-bytes-requires returns)
+entering-spec = tie.close (tie.spec (λ c. search needs) (λ c κs. search needs) returns)

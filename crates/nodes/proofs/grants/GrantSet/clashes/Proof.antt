@@ -4,15 +4,6 @@ use borrow.Author.Needs.{needs}
 use Rattle.nodes.proofs.grants.GrantSet.clashes.Statement.{statement}
 use Rattle.nodes.proofs.grants.GrantSet.clashes.Tie as tie
 
-has-requires : tie.Need-has-requires
-has-requires c κs = search needs
-
-has-requires-2 : tie.Need-has-requires-2
-has-requires-2 c κs = search needs
-
-row-mask-requires : tie.Need-row-mask-requires
-row-mask-requires c κs = search needs
-
 returns : tie.Need-returns
 unfolding clashesWith Holds
 returns c =
@@ -26,4 +17,4 @@ returns c =
     }
 
 pub clashes-spec : {M : Type 1} → statement M
-clashes-spec = tie.close (tie.spec has-requires has-requires-2 row-mask-requires returns)
+clashes-spec = tie.close (tie.spec (λ c κs. search needs) (λ c κs. search needs) (λ c κs. search needs) returns)

@@ -24,7 +24,15 @@ pub struct Changed {
 pub fn add(t: Table, place: usize, flow: Flow, plan: [u8; Plan::MOST * Plan::STEP_BYTES]) -> Changed
     ensures { λ r. ⌜ Adds (record { table = sectionsIn t; place = place; flow = flow; plan = plan }) r ⌝ }
 {
-    let asked = old_answer(t, enter_answer(t.flows as usize, place));
+    let placed = enter_answer(t.flows as usize, place);
+    let asked = old_answer(
+        t.nodes as usize,
+        t.flows as usize,
+        &t.rows,
+        &t.records,
+        &t.steps,
+        placed,
+    );
     if asked.code != 0 {
         return Changed {
             answer: asked,
@@ -50,7 +58,15 @@ pub fn add(t: Table, place: usize, flow: Flow, plan: [u8; Plan::MOST * Plan::STE
 pub fn remove(t: Table, place: usize) -> Changed
     ensures { λ r. ⌜ Removes (record { table = sectionsIn t; place = place }) r ⌝ }
 {
-    let asked = old_answer(t, leave_answer(t.flows as usize, place));
+    let placed = leave_answer(t.flows as usize, place);
+    let asked = old_answer(
+        t.nodes as usize,
+        t.flows as usize,
+        &t.rows,
+        &t.records,
+        &t.steps,
+        placed,
+    );
     if asked.code != 0 {
         return Changed {
             answer: asked,

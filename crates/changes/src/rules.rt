@@ -9,27 +9,27 @@ ghost use Rattle.trade.specs.Table.{InMemory};
 ghost use Rattle.trade.specs.Answers.{firstOf, noNumber};
 ghost use Rattle.trade.specs.Codes.{code14, code15Adding, code15Removing};
 ghost use Rattle.trade.specs.Calls.{newRules};
-ghost use Rattle.table.specs.Table.{sectionsIn};
 ghost use Rattle.changes.specs.Change.{oldThen};
 use bounds::bounds::bounds_of;
 use sections::records::records_answer;
 use sections::steps::steps_answer;
-use table::table::Table;
 use table::table::table_answer;
 use trade::Answer;
 use trade::Flow;
 
 // Codes 3, 5, 6 and 8 on the old table, and where they pass what the place answers.
-pub(crate) fn old_answer(t: Table, place: Answer) -> Answer
-    ensures { λ r. ⌜ r ≡ oldThen (sectionsIn t) place ⌝ }
+pub(crate) fn old_answer<'a>(
+    nodes: usize,
+    flows: usize,
+    rows: &'a [u8],
+    records: &'a [u8],
+    steps: &'a [u8],
+    place: Answer,
+) -> Answer
+    requires { ⌜ InMemory (sections nodes flows (now rows) (now records) (now steps)) ⌝ }
+    ensures { λ r. ⌜ r ≡ oldThen (sections nodes flows (now (rows .entry)) (now (records .entry)) (now (steps .entry))) place ⌝ }
 {
-    let old = table_answer(
-        t.nodes as usize,
-        t.flows as usize,
-        &t.rows,
-        &t.records,
-        &t.steps,
-    );
+    let old = table_answer(nodes, flows, rows, records, steps);
     if old.code != 0 {
         return old;
     }

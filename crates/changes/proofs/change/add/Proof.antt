@@ -33,11 +33,14 @@ two : (s : tie.Start) → asked s .flow .len < 65536
 two s = search needs
 
 -- the old table and the place have been tested
+abbrev placed : tie.After-old-answer → tie.After-enter-answer
+placed c = c .before .before .before .before .before .before .before .before
+
 abbrev by-both : tie.After-old-answer → Adding
-by-both c = asked (c .before .before)
+by-both c = asked (placed c .before)
 
 asks : (c : tie.After-old-answer) → c .old-answer .result ≡ askAnswer (by-both c)
-asks c = c .old-answer .ensures ∙ enter-asked (by-both c) (c .before .enter-answer .ensures)
+asks c = c .old-answer .ensures ∙ enter-asked (by-both c) (placed c .enter-answer .ensures)
 
 returns : tie.Need-returns
 unfolding addOf
@@ -53,7 +56,7 @@ by-passed c = by-both (c .before .before .before)
 enters : (c : tie.After-entering) → Enters (by-passed c)
 enters c =
     let tested = c .before .before .before in
-    let s = tested .before .before in
+    let s = placed tested .before in
     record {
       memory = memory s;
       plan = places s;
@@ -106,5 +109,5 @@ returns-3 c =
 
 pub add-spec : {M : Type 1} → statement M
 add-spec =
-    tie.close (tie.spec (λ c. search needs) (λ c κs. search needs) (λ c κs. search needs) returns (λ c κs. search needs)
+    tie.close (tie.spec (λ c. search needs) (λ c κs. search needs) (λ c. search needs) (λ c. search needs) (λ c κs. search needs) returns (λ c κs. search needs)
     recut-requires (λ c. search needs) (λ c. search needs) new-answer-requires returns-2 returns-3)

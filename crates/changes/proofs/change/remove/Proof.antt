@@ -22,11 +22,14 @@ memory : (s : tie.Start) → InMemory (asked s .table)
 memory s = record { rows = search needs; records = search needs; steps = search needs }
 
 -- the old table and the place have been tested, which gives the answer
+abbrev placed : tie.After-old-answer → tie.After-leave-answer
+placed c = c .before .before .before .before .before .before .before .before
+
 abbrev by-both : tie.After-old-answer → Removing
-by-both c = asked (c .before .before)
+by-both c = asked (placed c .before)
 
 answers : (c : tie.After-old-answer) → c .old-answer .result ≡ removeAnswer (by-both c)
-answers c = c .old-answer .ensures ∙ leave-asked (by-both c) (c .before .leave-answer .ensures)
+answers c = c .old-answer .ensures ∙ leave-asked (by-both c) (placed c .leave-answer .ensures)
 
 returns : tie.Need-returns
 unfolding removeOf
@@ -38,7 +41,7 @@ returns c =
 may : (c : tie.Else1) → Leaves (by-both (c .before .before))
 may c =
     record {
-      memory = memory (c .before .before .before .before);
+      memory = memory (placed (c .before .before) .before);
       asked = sym (ap (λ (r : Answer). r .code) (answers (c .before .before))) ∙ c .if1 .left;
     }
 
@@ -72,5 +75,5 @@ returns-2 c =
 
 pub remove-spec : {M : Type 1} → statement M
 remove-spec =
-    tie.close (tie.spec (λ c. search needs) (λ c κs. search needs) (λ c κs. search needs) returns leaving-requires recut-requires
+    tie.close (tie.spec (λ c. search needs) (λ c κs. search needs) (λ c. search needs) (λ c. search needs) (λ c κs. search needs) returns leaving-requires recut-requires
     returns-2)

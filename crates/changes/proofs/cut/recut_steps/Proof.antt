@@ -1,5 +1,5 @@
 -- `changes::cut::recut_steps` meets its contract: the used steps are cut where the plans start, and there is room. Assumes nothing.
-use Prim.Native.Nat.{ℕ, _-_, _*_, _≤_}
+use Prim.Native.Nat.{ℕ, _*_, _≤_}
 use mathlib.Core.Path.{_≡_, sym, _∙_, ap}
 use mathlib.Core.List.{List, []}
 use denote.Ref.{now}

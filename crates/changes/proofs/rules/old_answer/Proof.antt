@@ -20,4 +20,4 @@ returns-2 c =
 
 pub old-answer-spec : {M : Type 1} → statement M
 old-answer-spec =
-    tie.close (tie.spec (λ c. search needs) (λ c. search needs) (λ c κs. search needs) returns returns-2)
+    tie.close (tie.spec (λ c κs. search needs) returns returns-2)

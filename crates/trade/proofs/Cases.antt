@@ -1,11 +1,10 @@
--- The table of proved cases holds: each line is computed from the definitions.
+-- The table of worked cases holds: each line is computed from the definitions.
 -- Assumes nothing.
 use Prim.Native.Nat.{ℕ}
 use mathlib.Core.Path.{_≡_, refl, ap}
 use mathlib.Core.Bool.{Bool, true, false, cond}
 use mathlib.Core.List.{List}
 use Rattle.trade.specs.declared.answer.Answer.{Answer}
-use Rattle.trade.proofs.Calls.{advance-done}
 use Rattle.trade.specs.First.{firstFrom, first, some, sumTo, largestFrom, listFrom, listTo}
 use Rattle.trade.specs.Bytes.{word, long, twoBytes, fourBytes, bit, part, padded, over}
 use Rattle.trade.specs.Layout.{trailer, rowsDistance, recordsDistance, stepsDistance, nodeCount, flowCount, sectionsOf, field}
@@ -20,24 +19,34 @@ use Rattle.trade.specs.Area.{stateIn, areaOf}
 use Rattle.trade.specs.Codes.{outside, code1, code2, code3, code4, badRow, code5, badRecord, code6, code7, firstOfPlan, repeats, goesOn, badStep, code8, code14, code15Adding, code15Removing, code13}
 use Rattle.trade.specs.SlotCodes.{badPlace, code10, code12, overrun, code11}
 use Rattle.trade.specs.Exchange.{spliced, recut}
-use Rattle.trade.specs.Calls.{bookRules, tableRules, readAnswer, readOf, checkRulesBy, checkAnswerBy, boundsBy, checkBy, writeAnswer, writeOf, recordOf, withFlow, enterRules, newRules, addAnswer, addOf, withoutFlow, leaveRules, removeAnswer, removeOf, startAnswerBy, startArea, startBy, flowsGrantedBy, advanceAnswerBy, nextAreaBy, grantsInBy, advanceBy, advanceAnswer, grantsIn, advanceOf}
-use Rattle.trade.specs.Cases.{bookA, bookB, bookOfNone, deadlineAt, lent, grantRoom, areaAfter, slotOf, oneDisturbs, noneDisturbs, bareRows, bare, threeByThree, noMark, noNodes, badDistance, ownBit, noId, longerPlan, jump, tooTight, checks, starts, advances, areaWith, tableA, fullTable, adds, removes, writes, withRecords, withSteps, Cases}
+use Rattle.trade.specs.Calls.{Advancing, bookRules, tableRules, readAnswer, readOf, checkRulesBy, checkAnswerBy, boundsBy, checkBy, writeAnswer, writeOf, recordOf, withFlow, enterRules, newRules, addAnswer, addOf, withoutFlow, leaveRules, removeAnswer, removeOf, startAnswerBy, startArea, startBy, flowsGrantedBy, advanceAnswerBy, nextAreaBy, grantsInBy, advanceBy, advanceAnswer, grantsIn, advanceOf}
+use Rattle.trade.specs.Cases.{bookA, bookB, bookOfNone, deadlineAt, lent, grantRoom, areaAfter, slotOf, oneDisturbs, noneDisturbs, bareRows, bare, threeByThree, checks, tableA, Cases}
+use Rattle.trade.proofs.Calls.{advance-done}
 
--- with no flows an advance that is done has no grant to count or to write
+-- all that a case is computed with
+unfoldable pub computed : ℕ
+unfolding firstFrom first some sumTo largestFrom listFrom listTo word long twoBytes fourBytes bit part padded over trailer rowsDistance recordsDistance stepsDistance nodeCount flowCount sectionsOf field disturbsIn stepIn factsOf said firstStep allSteps stepOf stepsDistanceOf recordsDistanceOf rowsDistanceOf trailerOf used bookOf tableOf emptyTable isDone given givenFirst firstOf on meet conflict conflictsWith conflictFree one countOf worst worstPath matrix interference ceil instances slotsNeeded admissible boundBy boundlessBy acceptedBy atStart released instanceAt doneNow unfinished nextStep going greedy grantedBy among nextStateBy runBy grantOf grantsOf stateIn areaOf outside code1 code2 code3 code4 badRow code5 badRecord code6 code7 firstOfPlan repeats goesOn badStep code8 code14 code15Adding code15Removing code9By code13 badPlace code10 code12 overrun code11 bookRules tableRules readAnswer readOf checkRulesBy checkAnswerBy boundsBy checkBy writeAnswer writeOf recordOf spliced recut withFlow enterRules newRules addAnswer addOf withoutFlow leaveRules removeAnswer removeOf startAnswerBy startArea startBy flowsGrantedBy advanceAnswerBy nextAreaBy grantsInBy advanceBy bookA bookB bookOfNone deadlineAt lent grantRoom areaAfter slotOf oneDisturbs noneDisturbs bareRows bare threeByThree checks tableA
+computed = 0
+
+-- an advance of the book of none
+abbrev slotOfNone : List ℕ → List ℕ → Advancing
+slotOfNone area grants = record { book = bookOfNone; area = area; grants = grants }
+
+-- one that is done has no grant to count or to write
 every-slot-empty :
     (area grants : List ℕ)
-    → advanceOf (record { book = bookOfNone; area = area; grants = grants }) .answer .code ≡ 0
-    → (advanceOf (record { book = bookOfNone; area = area; grants = grants }) .answer .number ≡ 0)
-    × (advanceOf (record { book = bookOfNone; area = area; grants = grants }) .grants ≡ grants)
-unfolding firstFrom first some sumTo largestFrom listFrom listTo word long twoBytes fourBytes bit part padded over trailer rowsDistance recordsDistance stepsDistance nodeCount flowCount sectionsOf field disturbsIn stepIn factsOf said firstStep allSteps stepOf stepsDistanceOf recordsDistanceOf rowsDistanceOf trailerOf used bookOf tableOf emptyTable isDone given givenFirst firstOf on meet conflict conflictsWith conflictFree one countOf worst worstPath matrix interference ceil instances slotsNeeded admissible boundBy boundlessBy acceptedBy atStart released instanceAt doneNow unfinished nextStep going greedy grantedBy among nextStateBy runBy grantOf grantsOf stateIn areaOf outside code1 code2 code3 code4 badRow code5 badRecord code6 code7 firstOfPlan repeats goesOn badStep code8 code14 code15Adding code15Removing code9By code13 badPlace code10 code12 overrun code11 bookRules tableRules readAnswer readOf checkRulesBy checkAnswerBy boundsBy checkBy writeAnswer writeOf recordOf spliced recut withFlow enterRules newRules addAnswer addOf withoutFlow leaveRules removeAnswer removeOf startAnswerBy startArea startBy flowsGrantedBy advanceAnswerBy nextAreaBy grantsInBy advanceBy bookA bookB bookOfNone deadlineAt lent grantRoom areaAfter slotOf oneDisturbs noneDisturbs bareRows bare threeByThree noMark noNodes badDistance ownBit noId longerPlan jump tooTight checks starts advances areaWith tableA fullTable adds removes writes withRecords withSteps
-every-slot-empty area grants e = (ap (λ (r : Answer). r .number) (advance-done greedy releasesOf (record { book = bookOfNone; area = area; grants = grants }) e), either (isDone (advanceAnswer (record { book = bookOfNone; area = area; grants = grants }))))
+    → advanceOf (slotOfNone area grants) .answer .code ≡ 0
+    → (advanceOf (slotOfNone area grants) .answer .number ≡ 0) × (advanceOf (slotOfNone area grants) .grants ≡ grants)
+unfolding computed
+every-slot-empty area grants e =
+    (ap (λ (r : Answer). r .number) (advance-done greedy releasesOf (slotOfNone area grants) e), either (isDone (advanceAnswer (slotOfNone area grants))))
   where
-    either : (b : Bool) → _≡_ {A = List ℕ} (cond b (over (grantsIn (record { book = bookOfNone; area = area; grants = grants })) grants) grants) grants
+    either : (b : Bool) → _≡_ {A = List ℕ} (cond b (over (grantsIn (slotOfNone area grants)) grants) grants) grants
     either true = refl
     either false = refl
 
 pub cases-hold : Cases
-unfolding firstFrom first some sumTo largestFrom listFrom listTo word long twoBytes fourBytes bit part padded over trailer rowsDistance recordsDistance stepsDistance nodeCount flowCount sectionsOf field disturbsIn stepIn factsOf said firstStep allSteps stepOf stepsDistanceOf recordsDistanceOf rowsDistanceOf trailerOf used bookOf tableOf emptyTable isDone given givenFirst firstOf on meet conflict conflictsWith conflictFree one countOf worst worstPath matrix interference ceil instances slotsNeeded admissible boundBy boundlessBy acceptedBy atStart released instanceAt doneNow unfinished nextStep going greedy grantedBy among nextStateBy runBy grantOf grantsOf stateIn areaOf outside code1 code2 code3 code4 badRow code5 badRecord code6 code7 firstOfPlan repeats goesOn badStep code8 code14 code15Adding code15Removing code9By code13 badPlace code10 code12 overrun code11 bookRules tableRules readAnswer readOf checkRulesBy checkAnswerBy boundsBy checkBy writeAnswer writeOf recordOf spliced recut withFlow enterRules newRules addAnswer addOf withoutFlow leaveRules removeAnswer removeOf startAnswerBy startArea startBy flowsGrantedBy advanceAnswerBy nextAreaBy grantsInBy advanceBy bookA bookB bookOfNone deadlineAt lent grantRoom areaAfter slotOf oneDisturbs noneDisturbs bareRows bare threeByThree noMark noNodes badDistance ownBit noId longerPlan jump tooTight checks starts advances areaWith tableA fullTable adds removes writes withRecords withSteps
+unfolding computed
 cases-hold =
     record {
       case1 = refl;
@@ -57,40 +66,5 @@ cases-hold =
       case10-conflict = refl;
       case11-length = refl;
       case11-accepted = refl;
-      case11-empty = λ area grants e. every-slot-empty area grants e;
-      one-way = refl;
-      other-way = refl;
-      tighter-carry = refl;
-      later-slot = refl;
-      not-begun = refl;
-      begun = refl;
-      order-1-2 = refl;
-      order-2-3 = refl;
-      order-3-4 = refl;
-      order-4-5 = refl;
-      order-5-6 = refl;
-      order-6-7 = refl;
-      order-7-8 = refl;
-      order-8-9 = refl;
-      order-9-13 = refl;
-      order-13 = refl;
-      order-8-13 = refl;
-      order-write-13 = refl;
-      order-13-10 = refl;
-      order-10-slot = refl;
-      order-10-12 = refl;
-      order-12-11 = refl;
-      order-11 = refl;
-      order-8-14 = refl;
-      order-14-15 = refl;
-      order-15-6 = refl;
-      order-6-8 = refl;
-      order-later-id = refl;
-      order-8-9-adding = refl;
-      order-8-adding = refl;
-      order-9-adding = refl;
-      order-added = refl;
-      order-6-15 = refl;
-      order-15 = refl;
-      order-removed = refl;
+      case11-empty = every-slot-empty;
     }

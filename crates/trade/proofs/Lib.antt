@@ -22,3 +22,4 @@ pub mod RoundTrip
 pub mod Unique
 pub mod Numbers
 pub mod Cases
+pub mod Pins

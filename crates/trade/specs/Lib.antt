@@ -22,3 +22,4 @@ pub mod Run
 pub mod Exchange
 pub mod Calls
 pub mod Cases
+pub mod Pins

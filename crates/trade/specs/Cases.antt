@@ -1,20 +1,21 @@
 -- The worked cases of the rules, in their order and under their numbers, in one table. The books stand here as bytes. Three of the cases
 -- are run and not proved: 8, 12 and 13, by the program `cases` and by the host's program of that name, on the proved code and on an
 -- independent scheduler. Lines of our own are in Pins. Leans on Calls and all below it.
-use Prim.Native.Nat.{ℕ, zero, suc, _*_}
+use Prim.Native.Nat.{ℕ, zero, suc, _*_, _<_}
 use mathlib.Core.Path.{_≡_}
 use mathlib.Core.Bool.{Bool, true, false, _&&_}
 use mathlib.Core.List.{List, [], _∷_}
 use lib.Dec.{eqb}
 use lib.ListN.{length, getD, set, replicate}
-use Rattle.trade.specs.Limits.{mostFlows, areaBytes, grantBytes}
+use Rattle.trade.specs.Limits.{mostFlows, areaBytes, grantBytes, endOfClock}
 use Rattle.trade.specs.Layout.{Sections, flowCount, sectionsOf}
-use Rattle.trade.specs.Facts.{said}
+use Rattle.trade.specs.Facts.{Facts, said}
 use Rattle.trade.specs.Table.{trailerOf, bookOf, tableOf}
 use Rattle.trade.specs.Answers.{done, refused}
 use Rattle.trade.specs.Conflict.{conflict}
 use Rattle.trade.specs.Interference.{matrix, worstPath, interference}
-use Rattle.trade.specs.Calls.{checkOf, startOf, advanceOf, Advanced}
+use Rattle.trade.specs.Bound.{Measure, byInterference}
+use Rattle.trade.specs.Calls.{checkBy, checkOf, startOf, advanceOf, Advanced}
 use Rattle.trade.specs.declared.answer.Answer.{Answer}
 use Rattle.trade.specs.declared.node.Transmission.{Transmission}
 
@@ -105,6 +106,10 @@ bare i j = eqb (getD (getD bareRows i []) j 0) 1
 unfoldable pub threeByThree : (ℕ → ℕ → Bool) → List Bool
 threeByThree m = m 0 0 ∷ m 0 1 ∷ m 0 2 ∷ m 1 0 ∷ m 1 1 ∷ m 1 2 ∷ m 2 0 ∷ m 2 1 ∷ m 2 2 ∷ []
 
+-- the formula of the slides counts ceil(R / P) instances of a flow above, as if none were carried in: a carry of 1 adds nothing
+abbrev pub bySlides : Facts → Measure
+bySlides f = byInterference f (λ h. 1)
+
 -- what check answers to a book
 unfoldable pub checks : List ℕ → Answer
 checks book = checkOf book .answer
@@ -143,18 +148,21 @@ pub record Cases : Type 0 where
       }
   -- 6. bounds 5, 6, 7
   pub case6 : checkOf bookB ≡ record { answer = done 0; bounds = 5 ∷ 6 ∷ 7 ∷ replicate 29 0 }
-  -- 7. D of flow 3 set to 6: code 9, flow 2
+  -- 7. D of flow 3 set to 6: code 9, flow 2. The formula of the slides would give 6, and so accept it
   pub case7 : checks (deadlineAt deadlineOf3 6 bookB) ≡ refused 9 2
+  pub case7-slides : checkBy bySlides (deadlineAt deadlineOf3 6 bookB) ≡ record { answer = done 0; bounds = 5 ∷ 6 ∷ 6 ∷ replicate 29 0 }
   -- 8. the run of book B, slots 5 to 11: run, as the listing of B in `cases`
   -- 9. the bare matrix: I = 5
   pub case9 : worstPath bare 4 6 ≡ 5
   -- 10. 0-1 and 2-3: free with no disturbance; in conflict if 2 disturbs 1
   pub case10-free : conflict noneDisturbs (sends 0 1) (sends 2 3) ≡ false
   pub case10-conflict : conflict (oneDisturbs 2 1) (sends 0 1) (sends 2 3) ≡ true
-  -- 11. one node, no flows: 18 bytes, accepted, every slot empty: whatever area and buffer are lent, an advance that is done counts no
-  -- grant and leaves the buffer as lent
+  -- 11. one node, no flows: 18 bytes, accepted, every slot empty: started, each slot of the clock is done with no grant. And whatever
+  -- area and buffer are lent, an advance that is done counts no grant and leaves the buffer as lent
   pub case11-length : length bookOfNone ≡ 18
   pub case11-accepted : checks bookOfNone ≡ done 0
+  pub case11-started : startOf (record { book = bookOfNone; area = lent areaBytes }) .answer ≡ done 0
+  pub case11-slots : (k : ℕ) → k < endOfClock → slotOf bookOfNone k .answer ≡ done 0
   pub case11-empty :
       (area grants : List ℕ)
       → let a : Advanced = advanceOf (record { book = bookOfNone; area = area; grants = grants }) in

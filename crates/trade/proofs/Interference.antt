@@ -1,5 +1,5 @@
--- Interference is the largest count of any choice: every choice counts at most I, and some choice reaches it. It is also what one
--- line of figures gives, worked over once for each step of h. Leans on Sums. Assumes nothing.
+-- What is computed of interference is the largest count that any choice reaches, and nothing else is. It is also what one line of figures
+-- gives, worked over once for each step of h. Leans on Sums. Assumes nothing.
 use Prim.Native.Nat.{ℕ, zero, suc, _+_, _-_, _≤_, _<_, max}
 use mathlib.Core.Path.{_≡_, refl, sym, _∙_, ap, ap₂}
 use mathlib.Core.Bool.{Bool}
@@ -9,7 +9,7 @@ use native.Mathlib.Nat.{le-trans, add-le-add, add-suc, zero-add}
 use lib.ListN.{getD, replicate}
 use Rattle.trade.specs.First.{largestFrom}
 use Rattle.trade.specs.Facts.{Facts}
-use Rattle.trade.specs.Interference.{Matrix, one, Choice, chosen, choose, countOf, worst, worstPath, matrix, interference}
+use Rattle.trade.specs.Interference.{Matrix, one, Choice, chosen, choose, countOf, Largest, matrix, IsInterference, worst, worstPath, interference}
 use Rattle.trade.proofs.Sums.{largest-above, largest-reached, largest-cong}
 
 -- every choice counts at most the worst
@@ -34,18 +34,24 @@ choice-reached marks rows i j (suc k) h =
       ap (λ (w : ℕ). one (marks (c .0) j) + w) (r .2) ∙ c .3 ∙ ap (λ (m : ℕ). largestFrom f i m) (sym n),
     )
 
--- I(l,h) is the largest count that any choice reaches
-pub record Largest (marks : Matrix) (rows columns top : ℕ) : Type 0 where
-  pub at-most : (cs : List ℕ) → Choice rows 0 columns cs → countOf marks 0 cs ≤ top
-  pub reached : (cs : List ℕ) × Choice rows 0 columns cs × (countOf marks 0 cs ≡ top)
+-- one number at most is the largest count
+pub largest-unique : {marks : Matrix} {rows columns a b : ℕ} → Largest marks rows columns a → Largest marks rows columns b → a ≡ b
+largest-unique p q =
+    let x = p .reached in
+    let y = q .reached in
+    omega (arith, x .2, y .2, q .at-most (x .0) (x .1), p .at-most (y .0) (y .1))
 
-pub interference-largest : (f : Facts) (l h : ℕ) → 0 < f .len l → Largest (matrix f l h) (f .len l) (f .len h) (interference f l h)
+-- what is computed is I(l,h), where l has a step to choose, and nothing else is
+pub interference-largest : (f : Facts) (l h : ℕ) → 0 < f .len l → IsInterference f l h (interference f l h)
 unfolding interference worstPath
 interference-largest f l h p =
     record {
       at-most = λ cs c. choice-at-most (matrix f l h) (f .len l) 0 c;
       reached = choice-reached (matrix f l h) (f .len l) 0 0 (f .len h) p;
     }
+
+pub interference-unique : (f : Facts) (l h I : ℕ) → 0 < f .len l → IsInterference f l h I → I ≡ interference f l h
+interference-unique f l h I p q = largest-unique q (interference-largest f l h p)
 
 -- past l's last step nothing is left to choose; at an earlier step, choose it or go on to the next
 pub worst-past : (marks : Matrix) (rows i j k : ℕ) → rows ≤ i → worst marks rows i j k ≡ 0

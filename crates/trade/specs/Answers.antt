@@ -41,6 +41,6 @@ on look rules = map (λ rule. λ x. rule (look x)) rules
 abbrev pub noNumber : {A : Type 0} → A → ℕ
 noNumber x = 0
 
--- the one number that answers C
+-- the one number that answers C, for the three calls of the crate `radio`
 abbrev pub packedOf : Answer → ℕ
 packedOf a = a .code * packing + a .number

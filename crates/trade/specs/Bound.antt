@@ -48,26 +48,27 @@ admissible f μ l R = leb (f .len l) R && leb R (f .deadline l) && leb (slotsNee
 unfoldable pub boundBy : Facts → Measure → ℕ → ℕ
 boundBy f μ l = first (admissible f μ l) (suc (f .deadline l))
 
-abbrev pub bound : Facts → ℕ → ℕ
-bound f l = boundBy f (measure f) l
-
 -- a flow that has no response bound
 unfoldable pub boundlessBy : Facts → Measure → ℕ → Bool
 boundlessBy f μ l = not (leb (boundBy f μ l) (f .deadline l))
 
-abbrev pub boundless : Facts → ℕ → Bool
-boundless f l = boundlessBy f (measure f) l
-
--- facts are accepted if every flow has a response bound; with no flows they are
+-- facts are accepted if every flow has a response bound; with no flows they are. The laws of what check accepts speak of it
 unfoldable pub acceptedBy : Facts → Measure → Bool
 acceptedBy f μ = not (some (boundlessBy f μ) (f .flows))
-
-abbrev pub accepted : Facts → Bool
-accepted f = acceptedBy f (measure f)
 
 -- 9: a flow has no response bound; the first such flow
 unfoldable pub code9By : Facts → Measure → Answer
 code9By f μ = givenFirst 9 (boundlessBy f μ) (f .flows)
 
+-- by the measure of interference and deadlines; adding takes the code, and the proofs of `bounds` and `promise` the others
 abbrev pub code9 : Facts → Answer
 code9 f = code9By f (measure f)
+
+abbrev pub bound : Facts → ℕ → ℕ
+bound f l = boundBy f (measure f) l
+
+abbrev pub boundless : Facts → ℕ → Bool
+boundless f l = boundlessBy f (measure f) l
+
+abbrev pub accepted : Facts → Bool
+accepted f = acceptedBy f (measure f)

@@ -72,7 +72,7 @@ checkBy measured b =
       bounds = cond (isDone (checkAnswerBy measured b)) (boundsBy (said b) (measured (said b))) (replicate mostFlows 0);
     }
 
--- by the measure of interference and deadlines
+-- by the measure of interference and deadlines; the rules and the bounds have names for the proofs of check and start in code
 abbrev pub checkRules : List (List ℕ → Answer)
 checkRules = checkRulesBy measure
 

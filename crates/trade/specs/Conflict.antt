@@ -23,7 +23,7 @@ unfoldable pub conflictsWith : (ℕ → ℕ → Bool) → List Transmission → 
 conflictsWith disturbs [] t = Bool.false
 conflictsWith disturbs (u ∷ us) t = conflict disturbs u t || conflictsWith disturbs us t
 
--- a set is conflict-free if each pair is
+-- a set is conflict-free if each pair is; `grants-free` says it of the grants of a slot
 unfoldable pub conflictFree : (ℕ → ℕ → Bool) → List Transmission → Bool
 conflictFree disturbs [] = true
 conflictFree disturbs (u ∷ us) = not (conflictsWith disturbs us u) && conflictFree disturbs us

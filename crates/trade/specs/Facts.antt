@@ -48,11 +48,11 @@ factsOf s =
       step = stepIn (s .steps);
     }
 
--- what counts and sections say
+-- what counts and sections say, for code that has them apart
 abbrev pub factsIn : ℕ → ℕ → List ℕ → List ℕ → List ℕ → Facts
 factsIn n m rows records steps = factsOf (sections n m rows records steps)
 
--- record i as a flow
+-- record i as a flow, for code that reads a record at once
 unfoldable pub flowIn : List ℕ → ℕ → Flow
 flowIn records i =
     record {

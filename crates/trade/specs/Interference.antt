@@ -1,4 +1,5 @@
--- Interference of a higher flow h on a flow l. Leans on Conflict and Facts.
+-- Interference of a higher flow h on a flow l: first what it is, for the reader, and then as it is computed, which the bound takes.
+-- Leans on Conflict and Facts.
 use Prim.Native.Nat.{ℕ, zero, suc, _+_, _-_, _≤_, _<_}
 use mathlib.Core.Path.{_≡_}
 use mathlib.Core.Bool.{Bool, cond}

@@ -13,7 +13,7 @@ pub record Sections : Type 0 where
   pub records : List ℕ
   pub steps : List ℕ
 
--- counts and sections put together
+-- counts and sections put together, for code that has them apart
 abbrev pub sections : ℕ → ℕ → List ℕ → List ℕ → List ℕ → Sections
 sections n m rows records steps = record { nodes = n; flows = m; rows = rows; records = records; steps = steps }
 

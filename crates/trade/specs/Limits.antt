@@ -68,7 +68,7 @@ grantBytes = 9
 abbrev pub packing : ℕ
 packing = 65536
 
--- the figures, all together
+-- the figures, all together, for the contract of `all_limits`
 abbrev pub limitsOf : Limits
 limitsOf =
     record {

@@ -1,4 +1,4 @@
--- The values that the constructors of the run make. Leans on Limits.
+-- The values that the constructors of the run in code make. Leans on Limits.
 use lib.ListN.{replicate}
 use Prim.Native.Nat.{ℕ}
 use Rattle.trade.specs.Limits.{mostFlows}

@@ -81,6 +81,7 @@ greedy f r s above i = conflictsWith (f .disturbs) (map (nextStep f r s) above) 
 unfoldable pub grantedBy : Waits → Facts → Releases → State → List ℕ
 grantedBy waits f r s = going (waits f r s) (unfinished f r s) (f .flows)
 
+-- those of the greedy rule; the contracts of a slot's code name this and the next state by it
 abbrev pub granted : Facts → Releases → State → List ℕ
 granted = grantedBy greedy
 
@@ -98,13 +99,10 @@ nextStateBy waits f r s =
 abbrev pub nextState : Facts → Releases → State → State
 nextState = nextStateBy greedy
 
--- the run from its start, over any number of slots, with what is due in each
+-- the run from its start, over any number of slots, with what is due in each; the theorem about waiting speaks of it
 unfoldable pub runBy : Waits → Facts → (ℕ → Releases) → ℕ → State
 runBy waits f releases zero = atStart f
 runBy waits f releases (suc k) = nextStateBy waits f (releases k) (runBy waits f releases k)
-
-abbrev pub runTo : Facts → (ℕ → Releases) → ℕ → State
-runTo = runBy greedy
 
 -- a grant in its nine bytes: id (2), instance (4), step from 0 (1), sender, receiver
 unfoldable pub grantOf : Facts → Releases → State → ℕ → List ℕ

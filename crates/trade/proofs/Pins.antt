@@ -1,11 +1,11 @@
 -- The table of our own lines holds: each is computed from the definitions. Leans on Cases.
 -- Assumes nothing.
 use mathlib.Core.Path.{refl}
-use Rattle.trade.specs.Pins.{noMark, noNodes, badDistance, ownBit, noId, longerPlan, jump, tooTight, starts, advances, areaWith, fullTable, adds, removes, writes, withRecords, withSteps, Pins}
+use Rattle.trade.specs.Pins.{noMark, noNodes, badDistance, ownBit, noId, longerPlan, jump, tooTight, starts, advances, areaWith, fullTable, adds, removes, writes, withRecords, withSteps, ofOne, formedOfOne, trailerOfThree, stepOne, Pins}
 use Rattle.trade.proofs.Cases.{computed}
 
 pub pins-hold : Pins
-unfolding computed noMark noNodes badDistance ownBit noId longerPlan jump tooTight starts advances areaWith fullTable adds removes writes withRecords withSteps
+unfolding computed noMark noNodes badDistance ownBit noId longerPlan jump tooTight starts advances areaWith fullTable adds removes writes withRecords withSteps ofOne formedOfOne trailerOfThree stepOne
 pins-hold =
     record {
       one-way = refl;
@@ -14,6 +14,14 @@ pins-hold =
       later-slot = refl;
       not-begun = refl;
       begun = refl;
+      above-len = refl;
+      unused-place = refl;
+      used-place = refl;
+      sender-alone = refl;
+      receiver-alone = refl;
+      removed-first = refl;
+      removed-last = refl;
+      rooms = refl;
       order-1-2 = refl;
       order-2-3 = refl;
       order-3-4 = refl;

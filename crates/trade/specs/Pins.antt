@@ -9,10 +9,13 @@ use Rattle.trade.specs.Limits.{mostFlows, grantBytes, endOfClock}
 use Rattle.trade.specs.First.{listTo}
 use Rattle.trade.specs.Bytes.{fourBytes}
 use Rattle.trade.specs.Layout.{Sections}
-use Rattle.trade.specs.Table.{tableOf}
+use Rattle.trade.specs.Facts.{factsOf}
+use Rattle.trade.specs.Table.{bookOf, tableOf, emptyTable}
 use Rattle.trade.specs.Answers.{done, refused}
 use Rattle.trade.specs.Conflict.{conflict}
-use Rattle.trade.specs.Slot.{grantsOf}
+use Rattle.trade.specs.Slot.{releasesOf, grantsOf}
+use Rattle.trade.specs.Area.{stateIn}
+use Rattle.trade.specs.SlotCodes.{code10}
 use Rattle.trade.specs.Calls.{checkOf, writeOf, addOf, removeOf, startOf, advanceOf, recordOf}
 use Rattle.trade.specs.Cases.{bookA, tableA, deadlineAt, deadlineOf9, lent, slotOf, sends, oneDisturbs, checks}
 use Rattle.trade.specs.declared.answer.Answer.{Answer}
@@ -58,6 +61,13 @@ advances area room = advanceOf (record { book = bookA; area = area; grants = len
 unfoldable pub areaWith : ℕ → ℕ → ℕ → ℕ → List ℕ
 areaWith slot one two three = fourBytes slot ++ (one ∷ two ∷ three ∷ replicate 29 0)
 
+-- the run that an area of book A holds, as a run of its first flow alone: the second place is unused, though a record stands there
+unfoldable pub ofOne : Sections
+ofOne = record { nodes = tableA .nodes; flows = 1; rows = tableA .rows; records = tableA .records; steps = tableA .steps }
+
+unfoldable pub formedOfOne : List ℕ → Answer
+formedOfOne area = code10 (factsOf ofOne) (releasesOf (factsOf ofOne) (stateIn area)) (stateIn area)
+
 -- a flow with an id, period and deadline alike, and a plan length
 abbrev pub flowOf : ℕ → ℕ → ℕ → Flow
 flowOf id period len = record { id = id; phase = 0; period = period; deadline = period; len = len }
@@ -83,6 +93,14 @@ removes table place = removeOf (record { table = table; place = place }) .answer
 unfoldable pub writes : Sections → ℕ → Answer
 writes table room = writeOf (record { table = table; buffer = lent room }) .answer
 
+-- the trailer of a book of six nodes and one flow of three steps
+unfoldable pub trailerOfThree : List ℕ
+trailerOfThree = 0x00 ∷ 0x4a ∷ 0x00 ∷ 0x1a ∷ 0x00 ∷ 0x10 ∷ 0x06 ∷ 0x01 ∷ 0x46 ∷ 0x42 ∷ []
+
+-- book A with another step 1
+unfoldable pub stepOne : ℕ → ℕ → List ℕ
+stepOne sender receiver = set (set bookA 70 sender) 71 receiver
+
 -- a table with another section
 unfoldable pub withRecords : Sections → List ℕ → Sections
 withRecords t records = record { nodes = t .nodes; flows = t .flows; rows = t .rows; records = records; steps = t .steps }
@@ -101,6 +119,18 @@ pub record Pins : Type 0 where
   -- a flow that was not released before the slot is idle: of an area in which flow 9 has one step left, slot 0 is refused, slot 1 is not
   pub not-begun : advances (areaWith 0 3 2 0) 18 ≡ refused 10 1
   pub begun : advances (areaWith 1 3 2 0) 18 ≡ done 1
+  -- a place above its L, or unused and not 0, is bad
+  pub above-len : advances (areaWith 1 4 3 0) 18 ≡ refused 10 0
+  pub unused-place : formedOfOne (areaWith 1 3 3 0) ≡ refused 10 1
+  pub used-place : formedOfOne (areaWith 1 3 0 0) ≡ done 0
+  -- a step that has only its sender, or only its receiver, from the step before does not repeat it
+  pub sender-alone : checks (stepOne 0 2) ≡ refused 8 1
+  pub receiver-alone : checks (stepOne 2 1) ≡ refused 8 1
+  -- a flow goes with its record and its steps, and no other: book A without flow 7, and without flow 9
+  pub removed-first : bookOf (removeOf (record { table = tableA; place = 0 }) .table) ≡ take 48 bookA ++ take 10 (drop 58 bookA) ++ take 6 (drop 74 bookA) ++ trailerOfThree
+  pub removed-last : bookOf (removeOf (record { table = tableA; place = 1 }) .table) ≡ take 58 bookA ++ take 6 (drop 68 bookA) ++ trailerOfThree
+  -- a table has room for 64 rows of 8 bytes, 32 records of 10, and 32 plans of 32 steps of 2
+  pub rooms : length (emptyTable .rows) ∷ length (emptyTable .records) ∷ length (emptyTable .steps) ∷ [] ≡ 512 ∷ 320 ∷ 2048 ∷ []
   -- books with two faults each: the code that is tested first is given, with its number
   pub order-1-2 : checks (drop 81 (noMark bookA)) ≡ refused 1 0
   pub order-2-3 : checks (noMark (noNodes bookA)) ≡ refused 2 0

@@ -1,27 +1,38 @@
 -- The table of our own lines holds: each is computed from the definitions. Leans on Cases.
 -- Assumes nothing.
 use mathlib.Core.Path.{refl}
-use Rattle.trade.specs.Pins.{noMark, noNodes, badDistance, ownBit, noId, longerPlan, jump, tooTight, starts, advances, areaWith, fullTable, adds, removes, writes, withRecords, withSteps, ofOne, formedOfOne, trailerOfThree, stepOne, Pins}
+use Rattle.trade.specs.Facts.{flowIn}
+use Rattle.trade.specs.Pins.{noMark, noNodes, badDistance, ownBit, noId, longerPlan, jump, tooTight, distances, stepOne, trailerOfThree, counted, recorded, starts, advances, areaWith, ofOne, formedOfOne, manyFlows, bookOf3, fullTable, releasesAt, due, adds, removes, writes, withSteps, Pins}
 use Rattle.trade.proofs.Cases.{computed}
 
 pub pins-hold : Pins
-unfolding computed noMark noNodes badDistance ownBit noId longerPlan jump tooTight starts advances areaWith fullTable adds removes writes withRecords withSteps ofOne formedOfOne trailerOfThree stepOne
+unfolding computed flowIn noMark noNodes badDistance ownBit noId longerPlan jump tooTight distances stepOne trailerOfThree counted recorded starts advances areaWith ofOne formedOfOne manyFlows bookOf3 fullTable releasesAt due adds removes writes withSteps
 pins-hold =
     record {
-      one-way = refl;
-      other-way = refl;
-      tighter-carry = refl;
-      later-slot = refl;
-      not-begun = refl;
-      begun = refl;
+      bit-17 = refl;
+      fields = refl;
+      rooms = refl;
+      ten-bytes = refl;
+      mark-first = refl;
+      mark-second = refl;
+      counts = refl;
+      framed = refl;
+      not-framed = refl;
+      bit-at-n = refl;
+      last-bit = refl;
+      in-range = refl;
+      out-of-range = refl;
+      shorter-plan = refl;
+      sender-at-n = refl;
+      receiver-at-n = refl;
+      to-itself = refl;
+      sender-alone = refl;
+      receiver-alone = refl;
       above-len = refl;
       unused-place = refl;
       used-place = refl;
-      sender-alone = refl;
-      receiver-alone = refl;
-      removed-first = refl;
-      removed-last = refl;
-      rooms = refl;
+      not-begun = refl;
+      begun = refl;
       order-1-2 = refl;
       order-2-3 = refl;
       order-3-4 = refl;
@@ -32,8 +43,13 @@ pins-hold =
       order-8-9 = refl;
       order-9-13 = refl;
       order-13 = refl;
+      order-table-3-5 = refl;
+      order-table-5-6 = refl;
+      order-table-6-8 = refl;
       order-8-13 = refl;
       order-write-13 = refl;
+      order-8-short = refl;
+      order-short-area = refl;
       order-13-10 = refl;
       order-10-slot = refl;
       order-10-12 = refl;
@@ -47,8 +63,21 @@ pins-hold =
       order-8-9-adding = refl;
       order-8-adding = refl;
       order-9-adding = refl;
-      order-added = refl;
       order-6-15 = refl;
       order-15 = refl;
-      order-removed = refl;
+      added = refl;
+      removed-first = refl;
+      removed-last = refl;
+      one-way = refl;
+      other-way = refl;
+      tighter-carry = refl;
+      one-instance = refl;
+      two-instances = refl;
+      releases = refl;
+      instance-1 = refl;
+      begins = refl;
+      later-slot = refl;
+      three-bounds = refl;
+      three-tight = refl;
+      three-slot = refl;
     }

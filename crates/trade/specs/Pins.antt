@@ -2,22 +2,24 @@
 -- below it.
 use Prim.Native.Nat.{ℕ, suc, _-_}
 use mathlib.Core.Path.{_≡_}
-use mathlib.Core.Bool.{true, false}
+use mathlib.Core.Bool.{Bool, true, false}
 use mathlib.Core.List.{List, [], _∷_, _++_}
 use lib.ListN.{length, take, drop, set, replicate}
-use Rattle.trade.specs.Limits.{mostFlows, grantBytes, endOfClock}
+use Rattle.trade.specs.Limits.{mostFlows, areaBytes, grantBytes, endOfClock}
 use Rattle.trade.specs.First.{listTo}
 use Rattle.trade.specs.Bytes.{fourBytes}
-use Rattle.trade.specs.Layout.{Sections}
-use Rattle.trade.specs.Facts.{factsOf}
+use Rattle.trade.specs.Layout.{Sections, sectionsOf}
+use Rattle.trade.specs.Facts.{disturbsIn, factsOf, factsIn, flowIn, said}
 use Rattle.trade.specs.Table.{bookOf, tableOf, emptyTable}
 use Rattle.trade.specs.Answers.{done, refused}
 use Rattle.trade.specs.Conflict.{conflict}
-use Rattle.trade.specs.Slot.{releasesOf, grantsOf}
+use Rattle.trade.specs.Bound.{instances}
+use Rattle.trade.specs.Slot.{Releases, periodic, releasesOf, grantsOf}
 use Rattle.trade.specs.Area.{stateIn}
+use Rattle.trade.specs.Codes.{code3, code6}
 use Rattle.trade.specs.SlotCodes.{code10}
 use Rattle.trade.specs.Calls.{checkOf, writeOf, addOf, removeOf, startOf, advanceOf, recordOf}
-use Rattle.trade.specs.Cases.{bookA, tableA, deadlineAt, deadlineOf9, lent, slotOf, sends, oneDisturbs, checks}
+use Rattle.trade.specs.Cases.{bookA, bookB, tableA, deadlineAt, deadlineOf9, lent, slotOf, sends, oneDisturbs, checks}
 use Rattle.trade.specs.declared.answer.Answer.{Answer}
 use Rattle.trade.specs.declared.flow.Flow.{Flow}
 
@@ -50,6 +52,32 @@ jump book = set book 72 4
 unfoldable pub tooTight : List ℕ → List ℕ
 tooTight book = deadlineAt deadlineOf9 6 book
 
+-- book A behind a byte, with the low bytes of its three distances
+unfoldable pub distances : ℕ → ℕ → ℕ → List ℕ
+distances rows records steps = 0xee ∷ set (set (set bookA 81 rows) 83 records) 85 steps
+
+-- book A with another step 1
+unfoldable pub stepOne : ℕ → ℕ → List ℕ
+stepOne sender receiver = set (set bookA 70 sender) 71 receiver
+
+-- the trailer of a book of six nodes and one flow of three steps
+unfoldable pub trailerOfThree : List ℕ
+trailerOfThree = 0x00 ∷ 0x4a ∷ 0x00 ∷ 0x1a ∷ 0x00 ∷ 0x10 ∷ 0x06 ∷ 0x01 ∷ 0x46 ∷ 0x42 ∷ []
+
+-- a flow with an id, phase, period, deadline and plan length; and with phase 0, period and deadline alike
+abbrev pub flowWith : ℕ → ℕ → ℕ → ℕ → ℕ → Flow
+flowWith id phase period deadline len = record { id = id; phase = phase; period = period; deadline = deadline; len = len }
+
+abbrev pub flowOf : ℕ → ℕ → ℕ → Flow
+flowOf id period len = flowWith id 0 period period len
+
+-- what code 3 says of two counts, and code 6 of one record
+unfoldable pub counted : ℕ → ℕ → Answer
+counted n m = code3 (factsIn n m [] [] [])
+
+unfoldable pub recorded : Flow → Answer
+recorded flow = code6 (factsIn 2 1 [] (recordOf flow) [])
+
 -- what start answers to a book and an area, advance to an area and a buffer with book A
 unfoldable pub starts : List ℕ → ℕ → Answer
 starts book room = startOf (record { book = book; area = lent room }) .answer
@@ -61,29 +89,39 @@ advances area room = advanceOf (record { book = bookA; area = area; grants = len
 unfoldable pub areaWith : ℕ → ℕ → ℕ → ℕ → List ℕ
 areaWith slot one two three = fourBytes slot ++ (one ∷ two ∷ three ∷ replicate 29 0)
 
--- the run that an area of book A holds, as a run of its first flow alone: the second place is unused, though a record stands there
+-- what code 10 says of an area for the first flow of book A alone: the second place is unused, though a record stands there
 unfoldable pub ofOne : Sections
 ofOne = record { nodes = tableA .nodes; flows = 1; rows = tableA .rows; records = tableA .records; steps = tableA .steps }
 
 unfoldable pub formedOfOne : List ℕ → Answer
 formedOfOne area = code10 (factsOf ofOne) (releasesOf (factsOf ofOne) (stateIn area)) (stateIn area)
 
--- a flow with an id, period and deadline alike, and a plan length
-abbrev pub flowOf : ℕ → ℕ → ℕ → Flow
-flowOf id period len = record { id = id; phase = 0; period = period; deadline = period; len = len }
-
--- a table of 32 flows 1 to 32 that each send 0-1 once in 60,000 slots, and what the calls on a table answer
-unfoldable pub fullTable : Sections
-fullTable =
+-- tables: one of more flows than nodes, 1 to 3, which each send 0-1 once in 10 slots; and one of 32 flows 1 to 32, once in 60,000 slots
+unfoldable pub manyFlows : ℕ → ℕ → Sections
+manyFlows count period =
     tableOf
     (record {
       nodes = 2;
-      flows = mostFlows;
+      flows = count;
       rows = replicate 16 0;
-      records = grantsOf (λ i. recordOf (flowOf (suc i) 0xea60 1)) (listTo (λ i. i) mostFlows);
-      steps = grantsOf (λ i. 0 ∷ 1 ∷ []) (listTo (λ i. i) mostFlows);
+      records = grantsOf (λ i. recordOf (flowOf (suc i) period 1)) (listTo (λ i. i) count);
+      steps = grantsOf (λ i. 0 ∷ 1 ∷ []) (listTo (λ i. i) count);
     })
 
+unfoldable pub bookOf3 : List ℕ
+bookOf3 = bookOf (manyFlows 3 10)
+
+unfoldable pub fullTable : Sections
+fullTable = manyFlows mostFlows 0xea60
+
+-- what is due in a slot of book B, and whether flow 3 is
+unfoldable pub releasesAt : ℕ → Releases
+releasesAt slot = periodic (said bookB) (said bookB .phase) slot
+
+unfoldable pub due : ℕ → Bool
+due slot = releasesAt slot .due 2
+
+-- what the calls on a table answer
 unfoldable pub adds : Sections → ℕ → Flow → List ℕ → Answer
 adds table place flow plan = addOf (record { table = table; place = place; flow = flow; plan = plan ++ replicate (64 - length plan) 0 }) .answer
 
@@ -93,45 +131,64 @@ removes table place = removeOf (record { table = table; place = place }) .answer
 unfoldable pub writes : Sections → ℕ → Answer
 writes table room = writeOf (record { table = table; buffer = lent room }) .answer
 
--- the trailer of a book of six nodes and one flow of three steps
-unfoldable pub trailerOfThree : List ℕ
-trailerOfThree = 0x00 ∷ 0x4a ∷ 0x00 ∷ 0x1a ∷ 0x00 ∷ 0x10 ∷ 0x06 ∷ 0x01 ∷ 0x46 ∷ 0x42 ∷ []
-
--- book A with another step 1
-unfoldable pub stepOne : ℕ → ℕ → List ℕ
-stepOne sender receiver = set (set bookA 70 sender) 71 receiver
-
--- a table with another section
-unfoldable pub withRecords : Sections → List ℕ → Sections
-withRecords t records = record { nodes = t .nodes; flows = t .flows; rows = t .rows; records = records; steps = t .steps }
-
+-- a table with other steps
 unfoldable pub withSteps : Sections → List ℕ → Sections
 withSteps t steps = record { nodes = t .nodes; flows = t .flows; rows = t .rows; records = t .records; steps = steps }
 
 pub record Pins : Type 0 where
-  -- disturbance is one-way: with only 1 disturbing 2, 0-1 and 2-3 are free; with only 0 disturbing 3 they conflict
-  pub one-way : conflict (oneDisturbs 1 2) (sends 0 1) (sends 2 3) ≡ false
-  pub other-way : conflict (oneDisturbs 0 3) (sends 0 1) (sends 2 3) ≡ true
-  -- D of flow 7 set to 6: bounds 3 and 5
-  pub tighter-carry : checkOf (deadlineAt deadlineOf7 6 bookA) .bounds ≡ 3 ∷ 5 ∷ replicate 30 0
-  -- flow 7 of book A goes again in slot 10, its second instance, with its number
-  pub later-slot : take grantBytes (slotOf bookA 10 .grants) ≡ 0 ∷ 7 ∷ 0 ∷ 0 ∷ 0 ∷ 1 ∷ 0 ∷ 0 ∷ 1 ∷ []
-  -- a flow that was not released before the slot is idle: of an area in which flow 9 has one step left, slot 0 is refused, slot 1 is not
-  pub not-begun : advances (areaWith 0 3 2 0) 18 ≡ refused 10 1
-  pub begun : advances (areaWith 1 3 2 0) 18 ≡ done 1
-  -- a place above its L, or unused and not 0, is bad
+  -- THE BOOK. In row 1, node 17 is bit 1 of byte 2; a record's five fields; a table has room for 64 rows of 8 bytes, 32 records of 10, and
+  -- 32 plans of 32 steps of 2
+  pub bit-17 : disturbsIn (replicate 10 0 ++ (0x02 ∷ [])) 1 17 ≡ true
+  pub fields : flowIn (sectionsOf bookB .records) 2 ≡ flowWith 3 5 20 7 5
+  pub rooms : length (emptyTable .rows) ∷ length (emptyTable .records) ∷ length (emptyTable .steps) ∷ [] ≡ 512 ∷ 320 ∷ 2048 ∷ []
+  -- EACH CLAUSE OF A CODE BY ITSELF. 1: ten bytes pass it; 2: either byte of the mark; 3: both ends of both counts
+  pub ten-bytes : checks (drop 80 bookA) ≡ refused 4 0
+  pub mark-first : checks (set bookA 88 0x45) ≡ refused 2 0
+  pub mark-second : checks (set bookA 89 0x41) ≡ refused 2 0
+  pub counts :
+      counted 1 0 ∷ counted 64 32 ∷ counted 0 0 ∷ counted 65 0 ∷ counted 1 33 ∷ []
+      ≡ done 0 ∷ done 0 ∷ refused 3 0 ∷ refused 3 0 ∷ refused 3 0 ∷ []
+  -- 4: the rows too far and too near, the records too far and too near, the steps under 10 and odd, the rows past the slice
+  pub framed : checks (distances 0x5a 0x2a 0x16) ≡ done 0
+  pub not-framed :
+      checks (distances 0x5b 0x2a 0x16)
+      ∷ checks (distances 0x59 0x2a 0x16)
+      ∷ checks (distances 0x5b 0x2b 0x16)
+      ∷ checks (distances 0x59 0x29 0x16)
+      ∷ checks (distances 0x4c 0x1c 0x08)
+      ∷ checks (distances 0x59 0x29 0x15)
+      ∷ checks (distances 0x5c 0x2c 0x18)
+      ∷ []
+      ≡ replicate 7 (refused 4 0)
+  -- 5: bit n in row 5, the last bit in row 0. 6: the ends of each range, and past them. 7: a plan one step shorter
+  pub bit-at-n : checks (set bookA 40 0x50) ≡ refused 5 5
+  pub last-bit : checks (set bookA 7 0x80) ≡ refused 5 0
+  pub in-range : recorded (flowWith 1 0 1 1 1) ∷ recorded (flowWith 65535 60000 60000 60000 32) ∷ [] ≡ replicate 2 (done 0)
+  pub out-of-range :
+      recorded (flowWith 0 0 1 1 1)
+      ∷ recorded (flowWith 1 60001 1 1 1)
+      ∷ recorded (flowWith 1 0 60001 1 1)
+      ∷ recorded (flowWith 1 0 2 0 1)
+      ∷ recorded (flowWith 1 0 2 3 1)
+      ∷ recorded (flowWith 1 0 1 1 0)
+      ∷ recorded (flowWith 1 0 1 1 33)
+      ∷ []
+      ≡ replicate 7 (refused 6 0)
+  pub shorter-plan : checks (set bookA 67 2) ≡ refused 7 0
+  -- 8: sender at n, receiver at n, both the same; a step that has only its sender, or only its receiver, from the step before
+  pub sender-at-n : checks (set bookA 74 6) ≡ refused 8 3
+  pub receiver-at-n : checks (set bookA 79 6) ≡ refused 8 5
+  pub to-itself : checks (set bookA 75 5) ≡ refused 8 3
+  pub sender-alone : checks (stepOne 0 2) ≡ refused 8 1
+  pub receiver-alone : checks (stepOne 2 1) ≡ refused 8 1
+  -- 10: a place above its L; an unused one that is not 0; a flow that was not released before the slot and is not idle: of an area in which
+  -- flow 9 has one step left, slot 0 is refused, slot 1 is not
   pub above-len : advances (areaWith 1 4 3 0) 18 ≡ refused 10 0
   pub unused-place : formedOfOne (areaWith 1 3 3 0) ≡ refused 10 1
   pub used-place : formedOfOne (areaWith 1 3 0 0) ≡ done 0
-  -- a step that has only its sender, or only its receiver, from the step before does not repeat it
-  pub sender-alone : checks (stepOne 0 2) ≡ refused 8 1
-  pub receiver-alone : checks (stepOne 2 1) ≡ refused 8 1
-  -- a flow goes with its record and its steps, and no other: book A without flow 7, and without flow 9
-  pub removed-first : bookOf (removeOf (record { table = tableA; place = 0 }) .table) ≡ take 48 bookA ++ take 10 (drop 58 bookA) ++ take 6 (drop 74 bookA) ++ trailerOfThree
-  pub removed-last : bookOf (removeOf (record { table = tableA; place = 1 }) .table) ≡ take 58 bookA ++ take 6 (drop 68 bookA) ++ trailerOfThree
-  -- a table has room for 64 rows of 8 bytes, 32 records of 10, and 32 plans of 32 steps of 2
-  pub rooms : length (emptyTable .rows) ∷ length (emptyTable .records) ∷ length (emptyTable .steps) ∷ [] ≡ 512 ∷ 320 ∷ 2048 ∷ []
-  -- books with two faults each: the code that is tested first is given, with its number
+  pub not-begun : advances (areaWith 0 3 2 0) 18 ≡ refused 10 1
+  pub begun : advances (areaWith 1 3 2 0) 18 ≡ done 1
+  -- TWO FAULTS EACH: the code that is tested first is given, with its number. In a book
   pub order-1-2 : checks (drop 81 (noMark bookA)) ≡ refused 1 0
   pub order-2-3 : checks (noMark (noNodes bookA)) ≡ refused 2 0
   pub order-3-4 : checks (noNodes (badDistance bookA)) ≡ refused 3 0
@@ -142,13 +199,21 @@ pub record Pins : Type 0 where
   pub order-8-9 : checks (jump (tooTight bookA)) ≡ refused 8 2
   pub order-9-13 : starts (tooTight bookA) 35 ≡ refused 9 1
   pub order-13 : starts bookA 35 ≡ refused 13 0
-  pub order-8-13 : writes (withSteps tableA (set (tableA .steps) 4 4)) 89 ≡ refused 8 2
+  -- in a table, whose sections are those of a faulty book; 65 nodes leave its rows as they are
+  pub order-table-3-5 : writes (sectionsOf (set (ownBit bookA) 86 65)) 0 ≡ refused 3 0
+  pub order-table-5-6 : writes (sectionsOf (ownBit (noId bookA))) 0 ≡ refused 5 2
+  pub order-table-6-8 : writes (sectionsOf (noId (jump bookA))) 0 ≡ refused 6 1
+  pub order-8-13 : writes (sectionsOf (jump bookA)) 89 ≡ refused 8 2
   pub order-write-13 : writes tableA 89 ≡ refused 13 0
+  -- in a run
+  pub order-8-short : advanceOf (record { book = jump bookA; area = []; grants = [] }) .answer ≡ refused 8 2
+  pub order-short-area : advances (take 35 (areaWith (suc endOfClock) 9 9 9)) 18 ≡ refused 13 0
   pub order-13-10 : advances (areaWith (suc endOfClock) 9 9 9) 17 ≡ refused 13 0
   pub order-10-slot : advances (areaWith (suc endOfClock) 9 9 9) 18 ≡ refused 10 0
   pub order-10-12 : advances (areaWith endOfClock 3 3 1) 18 ≡ refused 10 2
   pub order-12-11 : advances (areaWith endOfClock 1 1 0) 18 ≡ refused 12 0
   pub order-11 : advances (areaWith 60 3 2 0) 18 ≡ refused 11 1
+  -- on adding and removing
   pub order-8-14 : adds (withSteps fullTable (set (fullTable .steps) 3 0)) 33 (flowOf 1 10 1) [] ≡ refused 8 1
   pub order-14-15 : adds fullTable 33 (flowOf 1 10 1) [] ≡ refused 14 0
   pub order-15-6 : adds tableA 3 (flowOf 0 10 1) [] ≡ refused 15 0
@@ -157,7 +222,45 @@ pub record Pins : Type 0 where
   pub order-8-9-adding : adds tableA 0 (flowOf 1 10 11) [] ≡ refused 8 0
   pub order-8-adding : adds tableA 1 (flowOf 1 1 1) (2 ∷ 2 ∷ []) ≡ refused 8 3
   pub order-9-adding : adds tableA 0 (flowOf 1 6 6) (0 ∷ 1 ∷ 0 ∷ 1 ∷ 0 ∷ 1 ∷ 0 ∷ 1 ∷ 0 ∷ 1 ∷ 0 ∷ 1 ∷ []) ≡ refused 9 1
-  pub order-added : adds tableA 2 (flowOf 1 60 1) (0 ∷ 1 ∷ []) ≡ done 0
-  pub order-6-15 : removes (withRecords tableA (set (tableA .records) 1 0)) 2 ≡ refused 6 0
+  pub order-6-15 : removes (sectionsOf (noId bookA)) 2 ≡ refused 6 1
   pub order-15 : removes tableA 2 ≡ refused 15 0
-  pub order-removed : removes tableA 1 ≡ done 0
+  -- WHAT THE CALLS DO. A flow comes in with its record and the L steps of its plan, between flows 7 and 9
+  pub added :
+      bookOf (addOf (record { table = tableA; place = 1; flow = flowWith 1 2 60 50 1; plan = 0 ∷ 1 ∷ replicate 62 9 }) .table)
+      ≡ take 58 bookA
+      ++ (0 ∷ 1 ∷ 0 ∷ 2 ∷ 0 ∷ 60 ∷ 0 ∷ 50 ∷ 0 ∷ 1 ∷ [])
+      ++ take 10 (drop 58 bookA)
+      ++ take 6 (drop 68 bookA)
+      ++ (0 ∷ 1 ∷ [])
+      ++ take 6 (drop 74 bookA)
+      ++ (0x00 ∷ 0x66 ∷ 0x00 ∷ 0x36 ∷ 0x00 ∷ 0x18 ∷ 0x06 ∷ 0x03 ∷ 0x46 ∷ 0x42 ∷ [])
+  -- a flow goes with its record and its steps, and no other: book A without flow 7, and without flow 9
+  pub removed-first : bookOf (removeOf (record { table = tableA; place = 0 }) .table) ≡ take 48 bookA ++ take 10 (drop 58 bookA) ++ take 6 (drop 74 bookA) ++ trailerOfThree
+  pub removed-last : bookOf (removeOf (record { table = tableA; place = 1 }) .table) ≡ take 58 bookA ++ take 6 (drop 68 bookA) ++ trailerOfThree
+  -- disturbance is one-way: with only 1 disturbing 2, 0-1 and 2-3 are free; with only 0 disturbing 3 they conflict
+  pub one-way : conflict (oneDisturbs 1 2) (sends 0 1) (sends 2 3) ≡ false
+  pub other-way : conflict (oneDisturbs 0 3) (sends 0 1) (sends 2 3) ≡ true
+  -- D of flow 7 set to 6: bounds 3 and 5
+  pub tighter-carry : checkOf (deadlineAt deadlineOf7 6 bookA) .bounds ≡ 3 ∷ 5 ∷ replicate 30 0
+  -- of a flow above with P 10 and D 5, one instance counts in 6 slots, and two in 7
+  pub one-instance : instances 6 5 10 ≡ 1
+  pub two-instances : instances 7 5 10 ≡ 2
+  -- flow 3 of book B is released in slots 5 and 25, and not in slots 0, 4, 6, 12 and 20; in slot 25 it is instance 1, and it has begun from
+  -- slot 6 on
+  pub releases :
+      due 0 ∷ due 4 ∷ due 5 ∷ due 6 ∷ due 12 ∷ due 20 ∷ due 25 ∷ []
+      ≡ false ∷ false ∷ true ∷ false ∷ false ∷ false ∷ true ∷ []
+  pub instance-1 : releasesAt 25 .instance 2 ≡ 1
+  pub begins : releasesAt 5 .begun 2 ∷ releasesAt 6 .begun 2 ∷ [] ≡ false ∷ true ∷ []
+  -- flow 7 of book A goes again in slot 10, its second instance, with its number
+  pub later-slot : take grantBytes (slotOf bookA 10 .grants) ≡ 0 ∷ 7 ∷ 0 ∷ 0 ∷ 0 ∷ 1 ∷ 0 ∷ 0 ∷ 1 ∷ []
+  -- three flows between two nodes: each has its bound, its place and its slot; D of flow 3 set to 4: code 9, flow 2
+  pub three-bounds : checkOf bookOf3 ≡ record { answer = done 0; bounds = 1 ∷ 3 ∷ 5 ∷ replicate 29 0 }
+  pub three-tight : checks (set bookOf3 43 4) ≡ refused 9 2
+  pub three-slot :
+      slotOf bookOf3 2
+      ≡ record {
+        answer = done 1;
+        area = 0 ∷ 0 ∷ 0 ∷ 3 ∷ 1 ∷ 1 ∷ 1 ∷ replicate 29 0;
+        grants = 0 ∷ 3 ∷ 0 ∷ 0 ∷ 0 ∷ 0 ∷ 0 ∷ 0 ∷ 1 ∷ lent 18;
+      }

@@ -2,11 +2,11 @@
 -- Assumes nothing.
 use mathlib.Core.Path.{refl}
 use Rattle.trade.specs.Facts.{flowIn}
-use Rattle.trade.specs.Pins.{noMark, noNodes, badDistance, ownBit, noId, longerPlan, jump, tooTight, distances, stepOne, trailerOfThree, counted, recorded, starts, advances, areaWith, ofOne, formedOfOne, manyFlows, bookOf3, fullTable, releasesAt, due, adds, removes, writes, withSteps, Pins}
+use Rattle.trade.specs.Pins.{noMark, noNodes, badDistance, ownBit, noId, longerPlan, jump, tooTight, distances, stepTwo, trailerOfThree, counted, recorded, starts, advances, areaWith, ofOne, formedOfOne, alike, bookOf4, fullTable, meets, blocked, releasesAt, due, adds, removes, writes, withSteps, Pins}
 use Rattle.trade.proofs.Cases.{computed}
 
 pub pins-hold : Pins
-unfolding computed flowIn noMark noNodes badDistance ownBit noId longerPlan jump tooTight distances stepOne trailerOfThree counted recorded starts advances areaWith ofOne formedOfOne manyFlows bookOf3 fullTable releasesAt due adds removes writes withSteps
+unfolding computed flowIn noMark noNodes badDistance ownBit noId longerPlan jump tooTight distances stepTwo trailerOfThree counted recorded starts advances areaWith ofOne formedOfOne alike bookOf4 fullTable meets blocked releasesAt due adds removes writes withSteps
 pins-hold =
     record {
       bit-17 = refl;
@@ -68,6 +68,8 @@ pins-hold =
       added = refl;
       removed-first = refl;
       removed-last = refl;
+      shared-node = refl;
+      either-grant = refl;
       one-way = refl;
       other-way = refl;
       tighter-carry = refl;
@@ -77,7 +79,7 @@ pins-hold =
       instance-1 = refl;
       begins = refl;
       later-slot = refl;
-      three-bounds = refl;
-      three-tight = refl;
-      three-slot = refl;
+      four-bounds = refl;
+      four-tight = refl;
+      four-slot = refl;
     }

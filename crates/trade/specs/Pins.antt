@@ -1,6 +1,6 @@
 -- Lines of our own, in one table: each shuts out a near miss of a definition that the worked cases leave open. Leans on Cases and all
 -- below it.
-use Prim.Native.Nat.{ℕ, suc, _-_}
+use Prim.Native.Nat.{ℕ, suc, _-_, _*_}
 use mathlib.Core.Path.{_≡_}
 use mathlib.Core.Bool.{Bool, true, false}
 use mathlib.Core.List.{List, [], _∷_, _++_}
@@ -12,14 +12,14 @@ use Rattle.trade.specs.Layout.{Sections, sectionsOf}
 use Rattle.trade.specs.Facts.{disturbsIn, factsOf, factsIn, flowIn, said}
 use Rattle.trade.specs.Table.{bookOf, tableOf, emptyTable}
 use Rattle.trade.specs.Answers.{done, refused}
-use Rattle.trade.specs.Conflict.{conflict}
+use Rattle.trade.specs.Conflict.{conflict, conflictsWith}
 use Rattle.trade.specs.Bound.{instances}
 use Rattle.trade.specs.Slot.{Releases, periodic, releasesOf, grantsOf}
 use Rattle.trade.specs.Area.{stateIn}
 use Rattle.trade.specs.Codes.{code3, code6}
 use Rattle.trade.specs.SlotCodes.{code10}
 use Rattle.trade.specs.Calls.{checkOf, writeOf, addOf, removeOf, startOf, advanceOf, recordOf}
-use Rattle.trade.specs.Cases.{bookA, bookB, tableA, deadlineAt, deadlineOf9, lent, slotOf, sends, oneDisturbs, checks}
+use Rattle.trade.specs.Cases.{bookA, bookB, tableA, deadlineAt, deadlineOf9, lent, slotOf, sends, oneDisturbs, noneDisturbs, checks}
 use Rattle.trade.specs.declared.answer.Answer.{Answer}
 use Rattle.trade.specs.declared.flow.Flow.{Flow}
 
@@ -56,9 +56,9 @@ tooTight book = deadlineAt deadlineOf9 6 book
 unfoldable pub distances : ℕ → ℕ → ℕ → List ℕ
 distances rows records steps = 0xee ∷ set (set (set bookA 81 rows) 83 records) 85 steps
 
--- book A with another step 1
-unfoldable pub stepOne : ℕ → ℕ → List ℕ
-stepOne sender receiver = set (set bookA 70 sender) 71 receiver
+-- book A with another step 2, behind 1-2
+unfoldable pub stepTwo : ℕ → ℕ → List ℕ
+stepTwo sender receiver = set (set bookA 72 sender) 73 receiver
 
 -- the trailer of a book of six nodes and one flow of three steps
 unfoldable pub trailerOfThree : List ℕ
@@ -96,23 +96,31 @@ ofOne = record { nodes = tableA .nodes; flows = 1; rows = tableA .rows; records 
 unfoldable pub formedOfOne : List ℕ → Answer
 formedOfOne area = code10 (factsOf ofOne) (releasesOf (factsOf ofOne) (stateIn area)) (stateIn area)
 
--- tables: one of more flows than nodes, 1 to 3, which each send 0-1 once in 10 slots; and one of 32 flows 1 to 32, once in 60,000 slots
-unfoldable pub manyFlows : ℕ → ℕ → Sections
-manyFlows count period =
+-- a table of flows 1, 2 and so on, which each send 0-1 once in a period
+unfoldable pub alike : ℕ → ℕ → ℕ → Sections
+alike nodes flows period =
     tableOf
     (record {
-      nodes = 2;
-      flows = count;
-      rows = replicate 16 0;
-      records = grantsOf (λ i. recordOf (flowOf (suc i) period 1)) (listTo (λ i. i) count);
-      steps = grantsOf (λ i. 0 ∷ 1 ∷ []) (listTo (λ i. i) count);
+      nodes = nodes;
+      flows = flows;
+      rows = replicate (8 * nodes) 0;
+      records = grantsOf (λ i. recordOf (flowOf (suc i) period 1)) (listTo (λ i. i) flows);
+      steps = grantsOf (λ i. 0 ∷ 1 ∷ []) (listTo (λ i. i) flows);
     })
 
-unfoldable pub bookOf3 : List ℕ
-bookOf3 = bookOf (manyFlows 3 10)
+-- a book of more flows than nodes, the last of which sends 2-1; and a table that is full
+unfoldable pub bookOf4 : List ℕ
+bookOf4 = set (bookOf (alike 3 4 10)) 70 2
 
 unfoldable pub fullTable : Sections
-fullTable = manyFlows mostFlows 0xea60
+fullTable = alike 2 mostFlows 60000
+
+-- whether A to B and C to D conflict, and whether 0 to 6 does with one of them, where nobody disturbs
+unfoldable pub meets : ℕ → ℕ → ℕ → ℕ → Bool
+meets a b c d = conflict noneDisturbs (sends a b) (sends c d)
+
+unfoldable pub blocked : ℕ → ℕ → ℕ → ℕ → Bool
+blocked a b c d = conflictsWith noneDisturbs (sends a b ∷ sends c d ∷ []) (sends 0 6)
 
 -- what is due in a slot of book B, and whether flow 3 is
 unfoldable pub releasesAt : ℕ → Releases
@@ -139,7 +147,7 @@ pub record Pins : Type 0 where
   -- THE BOOK. In row 1, node 17 is bit 1 of byte 2; a record's five fields; a table has room for 64 rows of 8 bytes, 32 records of 10, and
   -- 32 plans of 32 steps of 2
   pub bit-17 : disturbsIn (replicate 10 0 ++ (0x02 ∷ [])) 1 17 ≡ true
-  pub fields : flowIn (sectionsOf bookB .records) 2 ≡ flowWith 3 5 20 7 5
+  pub fields : flowIn (sectionsOf bookB .records) 0 ∷ flowIn (sectionsOf bookB .records) 2 ∷ [] ≡ flowWith 1 0 20 5 5 ∷ flowWith 3 5 20 7 5 ∷ []
   pub rooms : length (emptyTable .rows) ∷ length (emptyTable .records) ∷ length (emptyTable .steps) ∷ [] ≡ 512 ∷ 320 ∷ 2048 ∷ []
   -- EACH CLAUSE OF A CODE BY ITSELF. 1: ten bytes pass it; 2: either byte of the mark; 3: both ends of both counts
   pub ten-bytes : checks (drop 80 bookA) ≡ refused 4 0
@@ -179,8 +187,8 @@ pub record Pins : Type 0 where
   pub sender-at-n : checks (set bookA 74 6) ≡ refused 8 3
   pub receiver-at-n : checks (set bookA 79 6) ≡ refused 8 5
   pub to-itself : checks (set bookA 75 5) ≡ refused 8 3
-  pub sender-alone : checks (stepOne 0 2) ≡ refused 8 1
-  pub receiver-alone : checks (stepOne 2 1) ≡ refused 8 1
+  pub sender-alone : checks (stepTwo 1 0) ≡ refused 8 2
+  pub receiver-alone : checks (stepTwo 0 2) ≡ refused 8 2
   -- 10: a place above its L; an unused one that is not 0; a flow that was not released before the slot and is not idle: of an area in which
   -- flow 9 has one step left, slot 0 is refused, slot 1 is not
   pub above-len : advances (areaWith 1 4 3 0) 18 ≡ refused 10 0
@@ -237,6 +245,11 @@ pub record Pins : Type 0 where
   -- a flow goes with its record and its steps, and no other: book A without flow 7, and without flow 9
   pub removed-first : bookOf (removeOf (record { table = tableA; place = 0 }) .table) ≡ take 48 bookA ++ take 10 (drop 58 bookA) ++ take 6 (drop 74 bookA) ++ trailerOfThree
   pub removed-last : bookOf (removeOf (record { table = tableA; place = 1 }) .table) ≡ take 58 bookA ++ take 6 (drop 68 bookA) ++ trailerOfThree
+  -- two transmissions that share a node, in each of the six ways, conflict; a third waits for either of two
+  pub shared-node :
+      meets 0 0 2 3 ∷ meets 0 1 2 2 ∷ meets 0 1 0 3 ∷ meets 0 1 2 0 ∷ meets 0 1 1 3 ∷ meets 0 1 2 1 ∷ []
+      ≡ replicate 6 true
+  pub either-grant : blocked 0 1 2 3 ∷ blocked 2 3 0 1 ∷ blocked 2 3 4 5 ∷ [] ≡ true ∷ true ∷ false ∷ []
   -- disturbance is one-way: with only 1 disturbing 2, 0-1 and 2-3 are free; with only 0 disturbing 3 they conflict
   pub one-way : conflict (oneDisturbs 1 2) (sends 0 1) (sends 2 3) ≡ false
   pub other-way : conflict (oneDisturbs 0 3) (sends 0 1) (sends 2 3) ≡ true
@@ -254,13 +267,13 @@ pub record Pins : Type 0 where
   pub begins : releasesAt 5 .begun 2 ∷ releasesAt 6 .begun 2 ∷ [] ≡ false ∷ true ∷ []
   -- flow 7 of book A goes again in slot 10, its second instance, with its number
   pub later-slot : take grantBytes (slotOf bookA 10 .grants) ≡ 0 ∷ 7 ∷ 0 ∷ 0 ∷ 0 ∷ 1 ∷ 0 ∷ 0 ∷ 1 ∷ []
-  -- three flows between two nodes: each has its bound, its place and its slot; D of flow 3 set to 4: code 9, flow 2
-  pub three-bounds : checkOf bookOf3 ≡ record { answer = done 0; bounds = 1 ∷ 3 ∷ 5 ∷ replicate 29 0 }
-  pub three-tight : checks (set bookOf3 43 4) ≡ refused 9 2
-  pub three-slot :
-      slotOf bookOf3 2
+  -- four flows of three nodes: each has its bound, its place and its slot; D of flow 4 set to 6: code 9, flow 3
+  pub four-bounds : checkOf bookOf4 ≡ record { answer = done 0; bounds = 1 ∷ 3 ∷ 5 ∷ 7 ∷ replicate 28 0 }
+  pub four-tight : checks (set bookOf4 61 6) ≡ refused 9 3
+  pub four-slot :
+      slotOf bookOf4 3
       ≡ record {
         answer = done 1;
-        area = 0 ∷ 0 ∷ 0 ∷ 3 ∷ 1 ∷ 1 ∷ 1 ∷ replicate 29 0;
-        grants = 0 ∷ 3 ∷ 0 ∷ 0 ∷ 0 ∷ 0 ∷ 0 ∷ 0 ∷ 1 ∷ lent 18;
+        area = 0 ∷ 0 ∷ 0 ∷ 4 ∷ 1 ∷ 1 ∷ 1 ∷ 1 ∷ replicate 28 0;
+        grants = 0 ∷ 4 ∷ 0 ∷ 0 ∷ 0 ∷ 0 ∷ 0 ∷ 2 ∷ 1 ∷ lent 27;
       }

@@ -169,4 +169,5 @@ pub record Cases : Type 0 where
       a .answer .code ≡ 0
       → (a .answer .number ≡ 0) × (a .grants ≡ grants)
   -- 12. n 64 and m 32 pass code 3, 65 and 33 do not; P 60,000 passes, 60,001 gives 6: run, as "n most", "m most" and "P most" in `cases`
-  -- 13. slot 3,999,999,999 runs, and the next advance gives 12: run, as "last slot" and "past the last slot" in `cases`
+  -- 13. slot 3,999,999,999 runs, and the next advance gives 12: run, as "last slot" and "past the last slot" in `cases`. Of both, Pins has
+  -- lines of the definitions too

@@ -5,7 +5,7 @@ use mathlib.Core.Path.{_≡_}
 use mathlib.Core.Bool.{Bool, true, false}
 use mathlib.Core.List.{List, [], _∷_, _++_}
 use lib.ListN.{length, take, drop, set, replicate}
-use Rattle.trade.specs.Limits.{mostFlows, areaBytes, grantBytes, endOfClock}
+use Rattle.trade.specs.Limits.{mostFlows, grantBytes}
 use Rattle.trade.specs.First.{listTo}
 use Rattle.trade.specs.Bytes.{fourBytes}
 use Rattle.trade.specs.Layout.{Sections, sectionsOf}
@@ -18,7 +18,7 @@ use Rattle.trade.specs.Slot.{Releases, periodic, releasesOf, grantsOf}
 use Rattle.trade.specs.Area.{stateIn}
 use Rattle.trade.specs.Codes.{code3, code6}
 use Rattle.trade.specs.SlotCodes.{code10}
-use Rattle.trade.specs.Calls.{checkOf, writeOf, addOf, removeOf, startOf, advanceOf, recordOf}
+use Rattle.trade.specs.Calls.{readOf, checkOf, writeOf, addOf, removeOf, startOf, advanceOf, recordOf}
 use Rattle.trade.specs.Cases.{bookA, bookB, tableA, deadlineAt, deadlineOf9, lent, slotOf, sends, oneDisturbs, noneDisturbs, checks}
 use Rattle.trade.specs.declared.answer.Answer.{Answer}
 use Rattle.trade.specs.declared.flow.Flow.{Flow}
@@ -196,6 +196,11 @@ pub record Pins : Type 0 where
   pub used-place : formedOfOne (areaWith 1 3 0 0) ≡ done 0
   pub not-begun : advances (areaWith 0 3 2 0) 18 ≡ refused 10 1
   pub begun : advances (areaWith 1 3 2 0) 18 ≡ done 1
+  pub last-place : advances (set (areaWith 1 3 3 0) 35 1) 18 ≡ refused 10 31
+  -- 10, 12: the slot past the end of the clock, the end, and the last slot
+  pub past-the-end : advances (areaWith 4000000001 3 3 0) 18 ≡ refused 10 0
+  pub at-the-end : advances (areaWith 4000000000 3 3 0) 18 ≡ refused 12 0
+  pub last-slot : advances (areaWith 3999999999 3 3 0) 18 ≡ done 0
   -- TWO FAULTS EACH: the code that is tested first is given, with its number. In a book
   pub order-1-2 : checks (drop 81 (noMark bookA)) ≡ refused 1 0
   pub order-2-3 : checks (noMark (noNodes bookA)) ≡ refused 2 0
@@ -212,15 +217,13 @@ pub record Pins : Type 0 where
   pub order-table-5-6 : writes (sectionsOf (ownBit (noId bookA))) 0 ≡ refused 5 2
   pub order-table-6-8 : writes (sectionsOf (noId (jump bookA))) 0 ≡ refused 6 1
   pub order-8-13 : writes (sectionsOf (jump bookA)) 89 ≡ refused 8 2
-  pub order-write-13 : writes tableA 89 ≡ refused 13 0
   -- in a run
   pub order-8-short : advanceOf (record { book = jump bookA; area = []; grants = [] }) .answer ≡ refused 8 2
-  pub order-short-area : advances (take 35 (areaWith (suc endOfClock) 9 9 9)) 18 ≡ refused 13 0
-  pub order-13-10 : advances (areaWith (suc endOfClock) 9 9 9) 17 ≡ refused 13 0
-  pub order-10-slot : advances (areaWith (suc endOfClock) 9 9 9) 18 ≡ refused 10 0
-  pub order-10-12 : advances (areaWith endOfClock 3 3 1) 18 ≡ refused 10 2
-  pub order-12-11 : advances (areaWith endOfClock 1 1 0) 18 ≡ refused 12 0
-  pub order-11 : advances (areaWith 60 3 2 0) 18 ≡ refused 11 1
+  pub order-short-area : advances (take 35 (areaWith 4000000001 9 9 9)) 18 ≡ refused 13 0
+  pub order-13-10 : advances (areaWith 4000000001 9 9 9) 17 ≡ refused 13 0
+  pub order-10-slot : advances (areaWith 4000000001 9 9 9) 18 ≡ refused 10 0
+  pub order-10-12 : advances (areaWith 4000000000 3 3 1) 18 ≡ refused 10 2
+  pub order-12-11 : advances (areaWith 4000000000 1 1 0) 18 ≡ refused 12 0
   -- on adding and removing
   pub order-8-14 : adds (withSteps fullTable (set (fullTable .steps) 3 0)) 33 (flowOf 1 10 1) [] ≡ refused 8 1
   pub order-14-15 : adds fullTable 33 (flowOf 1 10 1) [] ≡ refused 14 0
@@ -231,7 +234,22 @@ pub record Pins : Type 0 where
   pub order-8-adding : adds tableA 1 (flowOf 1 1 1) (2 ∷ 2 ∷ []) ≡ refused 8 3
   pub order-9-adding : adds tableA 0 (flowOf 1 6 6) (0 ∷ 1 ∷ 0 ∷ 1 ∷ 0 ∷ 1 ∷ 0 ∷ 1 ∷ 0 ∷ 1 ∷ 0 ∷ 1 ∷ []) ≡ refused 9 1
   pub order-6-15 : removes (sectionsOf (noId bookA)) 2 ≡ refused 6 1
-  pub order-15 : removes tableA 2 ≡ refused 15 0
+  -- WHAT A CALL LEAVES, done and refused: behind what it writes, lent memory stays as it was
+  pub read-done : readOf bookA ≡ record { answer = done 0; table = tableA }
+  pub read-refused : readOf (noId bookA) ≡ record { answer = refused 6 1; table = emptyTable }
+  pub write-done : writeOf (record { table = tableA; buffer = lent 92 }) ≡ record { answer = done 90; buffer = bookA ++ lent 2 }
+  pub write-refused : writeOf (record { table = tableA; buffer = lent 89 }) ≡ record { answer = refused 13 0; buffer = lent 89 }
+  pub add-refused :
+      addOf (record { table = tableA; place = 3; flow = flowOf 1 10 1; plan = [] }) ≡ record { answer = refused 15 0; table = tableA }
+  pub remove-refused : removeOf (record { table = tableA; place = 2 }) ≡ record { answer = refused 15 0; table = tableA }
+  pub start-done : startOf (record { book = bookA; area = lent 38 }) ≡ record { answer = done 0; area = areaWith 0 3 3 0 ++ lent 2 }
+  pub start-refused : startOf (record { book = tooTight bookA; area = lent 38 }) ≡ record { answer = refused 9 1; area = lent 38 }
+  pub advance-done :
+      advanceOf (record { book = bookA; area = areaWith 2 2 2 0 ++ lent 2; grants = lent 20 })
+      ≡ record { answer = done 1; area = areaWith 3 3 2 0 ++ lent 2; grants = 0 ∷ 7 ∷ 0 ∷ 0 ∷ 0 ∷ 0 ∷ 2 ∷ 2 ∷ 3 ∷ lent 11 }
+  pub advance-refused :
+      advanceOf (record { book = bookA; area = areaWith 60 3 2 0; grants = lent 20 })
+      ≡ record { answer = refused 11 1; area = areaWith 60 3 2 0; grants = lent 20 }
   -- WHAT THE CALLS DO. A flow comes in with its record and the L steps of its plan, between flows 7 and 9
   pub added :
       bookOf (addOf (record { table = tableA; place = 1; flow = flowWith 1 2 60 50 1; plan = 0 ∷ 1 ∷ replicate 62 9 }) .table)
@@ -267,7 +285,8 @@ pub record Pins : Type 0 where
   pub begins : releasesAt 5 .begun 2 ∷ releasesAt 6 .begun 2 ∷ [] ≡ false ∷ true ∷ []
   -- flow 7 of book A goes again in slot 10, its second instance, with its number
   pub later-slot : take grantBytes (slotOf bookA 10 .grants) ≡ 0 ∷ 7 ∷ 0 ∷ 0 ∷ 0 ∷ 1 ∷ 0 ∷ 0 ∷ 1 ∷ []
-  -- four flows of three nodes: each has its bound, its place and its slot; D of flow 4 set to 6: code 9, flow 3
+  -- four flows of three nodes: each has its bound, its place and its slot; D of flow 4 set to 6: code 9, flow 3; released while it is
+  -- unfinished: code 11, flow 3
   pub four-bounds : checkOf bookOf4 ≡ record { answer = done 0; bounds = 1 ∷ 3 ∷ 5 ∷ 7 ∷ replicate 28 0 }
   pub four-tight : checks (set bookOf4 61 6) ≡ refused 9 3
   pub four-slot :
@@ -277,3 +296,4 @@ pub record Pins : Type 0 where
         area = 0 ∷ 0 ∷ 0 ∷ 4 ∷ 1 ∷ 1 ∷ 1 ∷ 1 ∷ replicate 28 0;
         grants = 0 ∷ 4 ∷ 0 ∷ 0 ∷ 0 ∷ 0 ∷ 0 ∷ 2 ∷ 1 ∷ lent 27;
       }
+  pub four-late : advanceOf (record { book = bookOf4; area = 0 ∷ 0 ∷ 0 ∷ 10 ∷ 1 ∷ 1 ∷ 1 ∷ 0 ∷ replicate 28 0; grants = lent 36 }) .answer ≡ refused 11 3

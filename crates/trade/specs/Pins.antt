@@ -5,7 +5,7 @@ use mathlib.Core.Path.{_≡_}
 use mathlib.Core.Bool.{Bool, true, false}
 use mathlib.Core.List.{List, [], _∷_, _++_}
 use lib.ListN.{length, take, drop, set, replicate}
-use Rattle.trade.specs.Limits.{mostFlows, grantBytes}
+use Rattle.trade.specs.Limits.{mostFlows, mostSteps, mostPeriod, rowBytes, stepBytes, grantBytes}
 use Rattle.trade.specs.First.{listTo}
 use Rattle.trade.specs.Bytes.{fourBytes}
 use Rattle.trade.specs.Layout.{Sections, sectionsOf}
@@ -103,7 +103,7 @@ alike nodes flows period =
     (record {
       nodes = nodes;
       flows = flows;
-      rows = replicate (8 * nodes) 0;
+      rows = replicate (rowBytes * nodes) 0;
       records = grantsOf (λ i. recordOf (flowOf (suc i) period 1)) (listTo (λ i. i) flows);
       steps = grantsOf (λ i. 0 ∷ 1 ∷ []) (listTo (λ i. i) flows);
     })
@@ -113,7 +113,7 @@ unfoldable pub bookOf4 : List ℕ
 bookOf4 = set (bookOf (alike 3 4 10)) 70 2
 
 unfoldable pub fullTable : Sections
-fullTable = alike 2 mostFlows 60000
+fullTable = alike 2 mostFlows mostPeriod
 
 -- whether A to B and C to D conflict, and whether 0 to 6 does with one of them, where nobody disturbs
 unfoldable pub meets : ℕ → ℕ → ℕ → ℕ → Bool
@@ -131,7 +131,7 @@ due slot = releasesAt slot .due 2
 
 -- what the calls on a table answer
 unfoldable pub adds : Sections → ℕ → Flow → List ℕ → Answer
-adds table place flow plan = addOf (record { table = table; place = place; flow = flow; plan = plan ++ replicate (64 - length plan) 0 }) .answer
+adds table place flow plan = addOf (record { table = table; place = place; flow = flow; plan = plan ++ replicate (stepBytes * mostSteps - length plan) 0 }) .answer
 
 unfoldable pub removes : Sections → ℕ → Answer
 removes table place = removeOf (record { table = table; place = place }) .answer
@@ -212,7 +212,7 @@ pub record Pins : Type 0 where
   pub order-8-9 : checks (jump (tooTight bookA)) ≡ refused 8 2
   pub order-9-13 : starts (tooTight bookA) 35 ≡ refused 9 1
   pub order-13 : starts bookA 35 ≡ refused 13 0
-  -- in a table, whose sections are those of a faulty book; 65 nodes leave its rows as they are
+  -- in a table, whose sections are those of a faulty book
   pub order-table-3-5 : writes (sectionsOf (set (ownBit bookA) 86 65)) 0 ≡ refused 3 0
   pub order-table-5-6 : writes (sectionsOf (ownBit (noId bookA))) 0 ≡ refused 5 2
   pub order-table-6-8 : writes (sectionsOf (noId (jump bookA))) 0 ≡ refused 6 1

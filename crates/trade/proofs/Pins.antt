@@ -1,14 +1,23 @@
 -- The table of our own lines holds: each is computed from the definitions. Leans on Cases.
 -- Assumes nothing.
+use Prim.Native.Nat.{zero, suc}
 use mathlib.Core.Path.{refl}
+use mathlib.Core.List.{[], _∷_}
+use native.Mathlib.Omega.{arith}
+use Rattle.trade.specs.Bytes.{Bytes}
 use Rattle.trade.specs.Facts.{flowIn}
 use Rattle.trade.specs.Pins.{noMark, noNodes, badDistance, ownBit, noId, longerPlan, jump, tooTight, distances, stepTwo, trailerOfThree, counted, recorded, starts, advances, areaWith, ofOne, formedOfOne, alike, bookOf4, fullTable, meets, blocked, releasesAt, due, adds, removes, writes, withSteps, Pins}
 use Rattle.trade.proofs.Cases.{computed}
+
+most-byte : Bytes (0xff ∷ [])
+most-byte zero = omega arith
+most-byte (suc i) = omega arith
 
 pub pins-hold : Pins
 unfolding computed flowIn noMark noNodes badDistance ownBit noId longerPlan jump tooTight distances stepTwo trailerOfThree counted recorded starts advances areaWith ofOne formedOfOne alike bookOf4 fullTable meets blocked releasesAt due adds removes writes withSteps
 pins-hold =
     record {
+      byte-255 = most-byte;
       bit-17 = refl;
       fields = refl;
       rooms = refl;

@@ -7,7 +7,7 @@ use mathlib.Core.List.{List, [], _∷_, _++_}
 use lib.ListN.{length, take, drop, set, replicate}
 use Rattle.trade.specs.Limits.{mostFlows, mostSteps, mostPeriod, rowBytes, stepBytes, grantBytes}
 use Rattle.trade.specs.First.{listTo}
-use Rattle.trade.specs.Bytes.{fourBytes}
+use Rattle.trade.specs.Bytes.{Bytes, fourBytes}
 use Rattle.trade.specs.Layout.{Sections, sectionsOf}
 use Rattle.trade.specs.Facts.{disturbsIn, factsOf, factsIn, flowIn, said}
 use Rattle.trade.specs.Table.{bookOf, tableOf, emptyTable}
@@ -144,8 +144,9 @@ unfoldable pub withSteps : Sections → List ℕ → Sections
 withSteps t steps = record { nodes = t .nodes; flows = t .flows; rows = t .rows; records = t .records; steps = steps }
 
 pub record Pins : Type 0 where
-  -- THE BOOK. In row 1, node 17 is bit 1 of byte 2; a record's five fields; a table has room for 64 rows of 8 bytes, 32 records of 10, and
-  -- 32 plans of 32 steps of 2
+  -- THE BOOK. 255 is a byte; in row 1, node 17 is bit 1 of byte 2; a record's five fields; a table has room for 64 rows of 8 bytes, 32
+  -- records of 10, and 32 plans of 32 steps of 2
+  pub byte-255 : Bytes (0xff ∷ [])
   pub bit-17 : disturbsIn (replicate 10 0 ++ (0x02 ∷ [])) 1 17 ≡ true
   pub fields : flowIn (sectionsOf bookB .records) 0 ∷ flowIn (sectionsOf bookB .records) 2 ∷ [] ≡ flowWith 1 0 20 5 5 ∷ flowWith 3 5 20 7 5 ∷ []
   pub rooms : length (emptyTable .rows) ∷ length (emptyTable .records) ∷ length (emptyTable .steps) ∷ [] ≡ 512 ∷ 320 ∷ 2048 ∷ []

@@ -277,12 +277,12 @@ pub record Pins : Type 0 where
   -- of a flow above with P 10 and D 5, one instance counts in 6 slots, and two in 7
   pub one-instance : instances 6 5 10 ≡ 1
   pub two-instances : instances 7 5 10 ≡ 2
-  -- flow 3 of book B is released in slots 5 and 25, and not in slots 0, 4, 6, 12 and 20; in slot 25 it is instance 1, and it has begun from
-  -- slot 6 on
+  -- flow 3 of book B is released in slots 5 and 25, and not in slots 0, 4, 6, 12 and 20; its latest instance is 0 in slot 24 and 1 in slot
+  -- 25, and it has begun from slot 6 on
   pub releases :
       due 0 ∷ due 4 ∷ due 5 ∷ due 6 ∷ due 12 ∷ due 20 ∷ due 25 ∷ []
       ≡ false ∷ false ∷ true ∷ false ∷ false ∷ false ∷ true ∷ []
-  pub instance-1 : releasesAt 25 .instance 2 ≡ 1
+  pub latest : releasesAt 24 .instance 2 ∷ releasesAt 25 .instance 2 ∷ [] ≡ 0 ∷ 1 ∷ []
   pub begins : releasesAt 5 .begun 2 ∷ releasesAt 6 .begun 2 ∷ [] ≡ false ∷ true ∷ []
   -- flow 7 of book A goes again in slot 10, its second instance, with its number
   pub later-slot : take grantBytes (slotOf bookA 10 .grants) ≡ 0 ∷ 7 ∷ 0 ∷ 0 ∷ 0 ∷ 1 ∷ 0 ∷ 0 ∷ 1 ∷ []

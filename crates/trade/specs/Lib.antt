@@ -18,7 +18,7 @@ pub mod Slot
 pub mod Area
 pub mod SlotCodes
 pub mod Run
--- The calls, and the proved cases.
+-- The calls, the proved cases, and lines of our own.
 pub mod Exchange
 pub mod Calls
 pub mod Cases

@@ -24,6 +24,7 @@ pub mod program;
 #[cfg(proved)]
 mod proved;
 pub mod request;
+pub mod stack;
 pub mod tables;
 pub mod tally;
 pub mod watch;

@@ -1,4 +1,4 @@
-//! The proved library through its C interface. The only unsafe code of the host stands here.
+//! The proved library through its C interface. The only unsafe code of the host stands here and in `stack`.
 #![allow(unsafe_code)]
 
 use crate::planner::Planner;

@@ -1,5 +1,5 @@
-//! Times the three calls of the planner under test against `keen`, on the same input in the same run, and prints a
-//! table in Markdown.
+//! Times the three calls of the planner under test against `keen`, on the same input in the same run, and measures the
+//! stack that they take. Prints a table of each in Markdown.
 //!
 //!     bench [--rounds N] [--millis N]
 
@@ -9,6 +9,7 @@ use slot_host::generate::regular;
 use slot_host::limits::*;
 use slot_host::options::Options;
 use slot_host::planner::{self, Planner};
+use slot_host::stack::taken;
 use std::hint::black_box;
 use std::time::{Duration, Instant};
 
@@ -38,6 +39,14 @@ fn main() {
             println!("| {name} | {call} | {ours:.0} | {theirs:.0} | {ratio:.2} |");
         }
     }
+
+    println!("\n| stack on the fullest book | keen, bytes | {}, bytes |", other.name());
+    println!("|---|---:|---:|");
+    let row = Row::new(keen, &fullest(), check);
+    let [ours, theirs] = [keen, other].map(|planner| row.stack(planner));
+    for (k, call) in ["check", "start", "advance"].into_iter().enumerate() {
+        println!("| {call} | {} | {} |", ours[k], theirs[k]);
+    }
 }
 
 /// The proved library, or `plain` in a build without it.
@@ -45,12 +54,16 @@ fn opponent() -> &'static dyn Planner {
     planner::named("proved").unwrap_or(&slot_host::plain::Plain)
 }
 
+fn fullest() -> Draft {
+    regular(64, MAX_NODES, MAX_FLOWS, MAX_LEN)
+}
+
 fn books() -> Vec<(String, Draft)> {
     let mut books = vec![
         ("A".to_string(), book_a()),
         ("B".to_string(), book_b()),
         ("middle: 20 nodes, 10 flows, 8 steps".to_string(), regular(20, 20, 10, 8)),
-        ("fullest: 64 nodes, 32 flows, 32 steps".to_string(), regular(64, MAX_NODES, MAX_FLOWS, MAX_LEN)),
+        ("fullest: 64 nodes, 32 flows, 32 steps".to_string(), fullest()),
     ];
     for flows in [0, 1, 2, 4, 8, 16, 32] {
         books.push((format!("32 nodes, {flows} flows, 8 steps"), regular(1, 32, flows, 8)));
@@ -108,6 +121,19 @@ impl Row {
         let begin = Instant::now();
         (self.work)(self, planner, calls);
         begin.elapsed().as_secs_f64()
+    }
+
+    /// The stack that check, start and advance take; of advance, the most over the slots of a lap.
+    fn stack(&self, planner: &dyn Planner) -> [usize; 3] {
+        // What the compiler does not know it does not inline: the call has a frame of its own.
+        let planner = black_box(planner);
+        let mut area = self.first;
+        let mut grants = vec![0; GRANT_BYTES * self.flows];
+        let check = taken(|| _ = black_box(planner.check(&self.book)));
+        let start = taken(|| _ = black_box(planner.start(&self.book, &mut area)));
+        let mut slot = || taken(|| _ = black_box(planner.advance(&self.book, &mut area, &mut grants)));
+        let advance = (0..LAP).map(|_| slot()).fold(0, usize::max);
+        [check, start, advance]
     }
 
     /// How many calls fill the time, at least one.

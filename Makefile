@@ -12,11 +12,12 @@ list:
 test:
 	bash .ci/run
 
-# Calls per second of the archive, beside those of a planner in Rust.
+# Calls per second of the archive, beside those of a planner in Rust, and the stack that each call takes.
 bench:
 	rt staticlib radio
 	host/build.sh target/staticlib/libradio.a
 	host/run.sh bench
+	host/stack.sh
 
 fmt:
 	rt fmt

@@ -1,5 +1,5 @@
 -- The grants of the flows that go, one flow at a time: those given so far are those of the places passed, in the buffer and in number, and
--- each of these flows is one step on. Leans on Places, on the nodes' OnesLaws, and on the trade's Slot. Assumes nothing.
+-- each of these flows is one step on. Leans on Places, on the nodes' LowestLaws, and on the trade's Slot. Assumes nothing.
 use Prim.Native.Nat.{ℕ, zero, suc, _+_, _-_, _*_, _≤_, _<_}
 use mathlib.Core.Path.{_≡_, refl, sym, _∙_, ap}
 use mathlib.Core.Bool.{Bool, true, false, not, _&&_}
@@ -27,7 +27,7 @@ use Rattle.trade.proofs.First.{bool-cases, and-true, lt-or-ge}
 use Rattle.trade.proofs.Slot.{going-goes, going-stays, going-stands, going-below, among-last}
 use Rattle.trade.proofs.Bytes.{length-over}
 use Rattle.nodes.proofs.MaskLaws.{bit-none}
-use Rattle.nodes.proofs.OnesLaws.{Lowest}
+use Rattle.nodes.proofs.LowestLaws.{Lowest}
 use Rattle.numbers.specs.Pasting.{pastedAt}
 use Rattle.numbers.proofs.PastingLaws.{pasted, pasted-next}
 use Rattle.slot.specs.States.{placeOf, bytesOf}

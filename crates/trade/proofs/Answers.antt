@@ -222,15 +222,3 @@ pub firstOf-on :
     → firstOf (on look rules ++ more) number x
     ≡ cond (isDone (firstOf rules noNumber (look x))) (firstOf more number x) (firstOf rules noNumber (look x))
 firstOf-on look rules more number x = firstOf-append (on look rules) more number x ∙ rw (firstOf-look look rules x)
-
-pub on-refused :
-    {A B : Type 0} (look : B → A) (rules : List (A → Answer)) (more : List (B → Answer)) (number : B → ℕ) (x : B)
-    → (firstOf rules noNumber (look x) .code ≡ 0 → ⊥)
-    → firstOf (on look rules ++ more) number x ≡ firstOf rules noNumber (look x)
-on-refused look rules more number x n = firstOf-on look rules more number x ∙ refused-second (firstOf rules noNumber (look x)) _ _ n
-
-pub on-passed :
-    {A B : Type 0} (look : B → A) (rules : List (A → Answer)) (more : List (B → Answer)) (number : B → ℕ) (x : B)
-    → firstOf rules noNumber (look x) .code ≡ 0
-    → firstOf (on look rules ++ more) number x ≡ firstOf more number x
-on-passed look rules more number x e = firstOf-on look rules more number x ∙ done-first (firstOf rules noNumber (look x)) _ _ e

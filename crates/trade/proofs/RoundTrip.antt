@@ -271,9 +271,3 @@ module _ (b : List ℕ) (p : Passed b bookRules) where
   unfolding bookOf
   read-book bytes =
       book-table (sectionsOf b) (book-holds b p) ∙ rw (used-whole b p, trailer-back bytes) (book-parts b p)
-
--- READ, THEN WRITE: of a slice that is all book
-pub read-then-write : (b : List ℕ) → Bytes b → length b ≡ rowsDistance b → Passed b bookRules → bookOf (tableOf (sectionsOf b)) ≡ b
-read-then-write b bytes whole p =
-    let e : length b - rowsDistance b ≡ 0 = omega arith in
-    read-book b p bytes ∙ ap (λ (n : ℕ). drop n b) e

@@ -15,7 +15,7 @@ use Rattle.trade.specs.Bytes.{bit}
 use Rattle.trade.specs.Facts.{flowIn}
 use Rattle.trade.specs.Run.{idleOf}
 use Rattle.trade.specs.declared.flow.Flow.{Flow}
-use Rattle.nodes.proofs.OnesLaws.{Lowest, trailing-lowest}
+use Rattle.nodes.proofs.LowestLaws.{Lowest, trailing-lowest}
 use Rattle.plans.specs.Plan.{noStep}
 use Rattle.slot.specs.States.{placeOf}
 use Rattle.slot.specs.Choice.{sentAt}

@@ -8,11 +8,9 @@ ghost use Rattle.trade.specs.Facts.{factsIn};
 ghost use Rattle.trade.specs.Bound.{byInterference, boundBy};
 ghost use Rattle.pairs.specs.Columns.{Disturbers};
 ghost use Rattle.sections.specs.Formed.{Formed};
-ghost use Rattle.figures.specs.Square.{HasLine};
 ghost use Rattle.bounds.specs.Bounds.{refusedBy, boundedBy};
 use crate::rising::smallest;
 use figures::figures::figures_at;
-use figures::figures::keep;
 use pairs::columns::disturbers;
 use sections::records::record_at;
 use trade::Answer;
@@ -37,21 +35,21 @@ pub(crate) fn refused(answer: Answer) -> Checked
 // The bound of flow l, by the periods and the carry-in of the flows above it; its deadline + 1 where it has none.
 fn bound_at(
     rows: &[u8],
+    disturbers: &[u64],
     records: &[u8],
     steps: &[u8],
-    square: &[u8],
     l: usize,
-    periods: &[u32; Flow::MOST],
-    carries: &[u32; Flow::MOST],
+    periods: &[u16; Flow::MOST],
+    carries: &[u16; Flow::MOST],
 ) -> u32
     requires { ⌜ Formed (l + 1) (now rows) (now records) (now steps) ⌝ }
-    requires { ⌜ (0 < length (now square) → HasLine (now rows) (now records) (now steps) l (now square)) ⌝ }
+    requires { ⌜ (0 < length (now disturbers) → Disturbers (now rows) (now disturbers)) ⌝ }
     requires { ⌜ ((h : ℕ) → h < l → getD (now periods) h 0 ≡ field (now records) h 2) ⌝ }
     requires { ⌜ ((h : ℕ) → h < l → getD (now carries) h 0 ≤ mostPeriod) ⌝ }
     ensures { λ r. ⌜ r ≡ boundBy (factsIn 0 0 (now (rows .entry)) (now (records .entry)) (now (steps .entry))) (byInterference (factsIn 0 0 (now (rows .entry)) (now (records .entry)) (now (steps .entry))) (λ h. getD (now (carries .entry)) h 0)) l ⌝ }
 {
     let flow = record_at(records, l);
-    let figures = figures_at(rows, records, steps, square, l);
+    let figures = figures_at(rows, disturbers, records, steps, l);
     smallest(
         flow.len as u32,
         flow.deadline as u32,
@@ -62,34 +60,32 @@ fn bound_at(
     )
 }
 
-// The bounds of all flows, or code 9 at the first flow that has none. The carry-in of a flow is its deadline. A square is lent for the
-// figures, with who disturbs whom; or none, and each figure is worked out where it is needed.
+// The bounds of all flows, or code 9 at the first flow that has none. The carry-in of a flow is its deadline. It is lent who disturbs whom, or
+// nothing, and each figure is then worked out by itself.
 fn bounds_with(
     flows: usize,
     rows: &[u8],
     records: &[u8],
     steps: &[u8],
     disturbers: &[u64],
-    square: &mut [u8],
 ) -> Checked
     requires { ⌜ Formed flows (now rows) (now records) (now steps) ⌝ }
-    requires { ⌜ (0 < length (now square) → Disturbers (now rows) (now disturbers) × (mostFlows * flows ≤ length (now square))) ⌝ }
+    requires { ⌜ (0 < length (now disturbers) → Disturbers (now rows) (now disturbers)) ⌝ }
     ensures { λ r. ⌜ r ≡ boundedBy (factsIn 0 flows (now (rows .entry)) (now (records .entry)) (now (steps .entry))) ⌝ }
 {
     let mut bounds = [0u16; Flow::MOST];
-    let mut periods = [0u32; Flow::MOST];
-    let mut carries = [0u32; Flow::MOST];
+    let mut periods = [0u16; Flow::MOST];
+    let mut carries = [0u16; Flow::MOST];
     let mut l = 0;
     while l < flows {
         let flow = record_at(records, l);
-        let bound = bound_at(rows, records, steps, square, l, &periods, &carries);
+        let bound = bound_at(rows, disturbers, records, steps, l, &periods, &carries);
         if (flow.deadline as u32) < bound {
             return refused(Answer::refused(9, l as u64));
         }
         bounds[l] = bound as u16;
-        periods[l] = flow.period as u32;
-        carries[l] = flow.deadline as u32;
-        keep(rows, disturbers, records, steps, flows, l, square);
+        periods[l] = flow.period;
+        carries[l] = flow.deadline;
         l += 1;
     }
     Checked {
@@ -98,7 +94,7 @@ fn bounds_with(
     }
 }
 
-// Up to so many step bytes a square costs more than it saves.
+// Up to so many step bytes the columns cost more than they save.
 const FEW: usize = 48;
 
 // The bounds of all flows, or code 9.
@@ -108,10 +104,8 @@ pub fn bounds_of(flows: usize, rows: &[u8], records: &[u8], steps: &[u8]) -> Che
 {
     if steps.len() <= FEW {
         let unknown = [0u64; 1];
-        let mut none = [0u8; 1];
-        return bounds_with(flows, rows, records, steps, &unknown[..0], &mut none[..0]);
+        return bounds_with(flows, rows, records, steps, &unknown[..0]);
     }
     let known = disturbers(rows);
-    let mut square = [0u8; Flow::MOST * Flow::MOST];
-    bounds_with(flows, rows, records, steps, &known, &mut square)
+    bounds_with(flows, rows, records, steps, &known)
 }

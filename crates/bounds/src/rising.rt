@@ -20,8 +20,8 @@ fn slots_needed(
     len: u32,
     above: usize,
     figures: &[u32; Flow::MOST],
-    periods: &[u32; Flow::MOST],
-    carries: &[u32; Flow::MOST],
+    periods: &[u16; Flow::MOST],
+    carries: &[u16; Flow::MOST],
     r: u32,
 ) -> u32
     requires { ⌜ Terms above (now figures) (now periods) (now carries) × (len ≤ mostSteps) × (1 ≤ r) × (r ≤ mostPeriod) ⌝ }
@@ -30,7 +30,7 @@ fn slots_needed(
     let mut sum = len;
     let mut h = 0;
     while h < above {
-        sum += instances(r, carries[h], periods[h]) * figures[h];
+        sum += instances(r, carries[h] as u32, periods[h] as u32) * figures[h];
         h += 1;
     }
     sum
@@ -43,8 +43,8 @@ pub(crate) fn smallest(
     deadline: u32,
     above: usize,
     figures: &[u32; Flow::MOST],
-    periods: &[u32; Flow::MOST],
-    carries: &[u32; Flow::MOST],
+    periods: &[u16; Flow::MOST],
+    carries: &[u16; Flow::MOST],
 ) -> u32
     requires { ⌜ Terms above (now figures) (now periods) (now carries) × (1 ≤ len) × (len ≤ mostSteps) × (deadline ≤ mostPeriod) ⌝ }
     ensures { λ r. ⌜ r ≡ smallestIn (neededIn len above (now (figures .entry)) (now (periods .entry)) (now (carries .entry))) len deadline ⌝ }

@@ -1,5 +1,4 @@
 -- Laws that the proofs of this crate's functions, and those above it, cite.
 pub mod Padded
 pub mod FiguresLaws
-pub mod KeepLaws
 pub mod Unique

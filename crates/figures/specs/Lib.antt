@@ -1,2 +1,2 @@
 -- Definitions that the contracts of this crate cite beside those of the trade.
-pub mod Square
+pub mod Figures

@@ -1,11 +1,10 @@
--- The figure that the columns of a plan h give for a plan l is that of the two plans. Leans on the trade's Interference. Assumes nothing.
-use Prim.Native.Nat.{ℕ, zero, suc, _+_, _-_, _*_, _/_, _≤_, _<_, min}
+-- The figure that the columns of a plan l give for a plan h is that of the two plans. Leans on the trade's Interference. Assumes nothing.
+use Prim.Native.Nat.{ℕ, zero, suc, _+_, _-_, _*_, _/_, _≤_, _<_, min, max}
 use mathlib.Core.Path.{_≡_, refl, sym, _∙_, ap, ap₂}
 use mathlib.Core.Bool.{Bool, true, false, _||_}
-use mathlib.Core.Logic.{_⊎_, ⊎-elim}
+use mathlib.Core.Logic.{⊎-elim}
 use mathlib.Core.List.{List}
 use native.Mathlib.Omega.{arith}
-use native.Mathlib.Nat.{suc-add}
 use borrow.Author.Tests.{ne-eqb, lt-ltb, le-ltb}
 use lib.Dec.{eqb}
 use lib.ListN.{length}
@@ -15,7 +14,8 @@ use Rattle.trade.specs.Conflict.{meet, conflict}
 use Rattle.trade.specs.Interference.{Matrix, one, worst, worstPath}
 use Rattle.trade.specs.declared.node.Transmission.{Transmission}
 use Rattle.trade.proofs.First.{lt-or-ge}
-use Rattle.trade.proofs.Interference.{worst-past, worst-row, worst-shifted}
+use Rattle.trade.proofs.Conflict.{conflict-symmetric}
+use Rattle.trade.proofs.Interference.{worst-past, worst-row}
 use Rattle.nodes.specs.Network.{Within}
 use Rattle.plans.specs.Plan.{AllWithin, stepsIn}
 use Rattle.pairs.specs.Line.{marksOf}
@@ -76,48 +76,77 @@ module _ (rows disturbers : List ℕ) (d : Disturbers rows disturbers) where
     unmarked t b p l m =
         rw (c .sent (t .sender .0) b (p .sender .numbered), c .received (t .receiver .0) b (p .receiver .numbered) m, le-ltb b (stepsIn h) l) refl
 
--- columns without marks add nothing
+-- rows without marks add nothing, at the front of a matrix
 module _ (marks : Matrix) (rows : ℕ) where
-  worst-down : (i j k : ℕ) → worst marks rows (suc i) j k ≤ worst marks rows i j k
-  unfolding worst
-  worst-down i j zero = omega arith
-  worst-down i j (suc k) =
+  -- a column more reaches no less
+  worst-more : (i j k : ℕ) → worst marks rows i (suc j) k ≤ worst marks rows i j (suc k)
+  worst-more i j k =
       ⊎-elim (λ (h : i < rows). omega (arith, worst-row marks rows i j k h))
-      (λ (h : rows ≤ i). omega (arith, worst-past marks rows (suc i) j (suc k) (omega arith))) (lt-or-ge i rows)
+      (λ (h : rows ≤ i). omega (arith, worst-past marks rows i (suc j) k h)) (lt-or-ge i rows)
 
-  skip-one : (n i j k : ℕ) → n ≡ rows - i → ((c : ℕ) → c < rows → marks c j ≡ false) → worst marks rows i j (suc k) ≡ worst marks rows i (suc j) k
-  unfolding one
-  skip-one zero i j k e none = worst-past marks rows i j (suc k) (omega arith) ∙ sym (worst-past marks rows i (suc j) k (omega arith))
-  skip-one (suc n) i j k e none =
-      omega (arith, rw (none i (omega arith), skip-one n (suc i) j k (omega arith) none) at (worst-row marks rows i j k (omega arith)), worst-down i (suc j) k)
+  skip-row :
+      (columns i j k : ℕ)
+      → i < rows
+      → j + k ≡ columns
+      → ((b : ℕ) → b < columns → marks i b ≡ false)
+      → worst marks rows i j k ≡ worst marks rows (suc i) j k
+  unfolding worst one
+  skip-row columns i j zero h e none = refl
+  skip-row columns i j (suc k) h e none =
+      omega (
+        arith,
+        rw (none j (omega arith), skip-row columns i (suc j) k h (omega arith) none) at (worst-row marks rows i j k h),
+        worst-more (suc i) j k,
+      )
 
-  skip : (d j k : ℕ) → ((c b : ℕ) → c < rows → j ≤ b → b < j + d → marks c b ≡ false) → worst marks rows 0 j (d + k) ≡ worst marks rows 0 (j + d) k
-  skip zero j k none = ap₂ (worst marks rows 0) (omega arith) (omega arith)
-  skip (suc d) j k none =
-      let e : suc j + d ≡ j + suc d = omega arith in
-      rw (suc-add d k, ← e)
-      (skip-one rows 0 j (d + k) (omega arith) (λ c l. none c j l (omega arith) (omega arith)) ∙ skip d (suc j) k (λ c b l p q. none c b l (omega arith) (omega arith)))
+  skip-rows :
+      (columns d : ℕ) → d ≤ rows → ((c b : ℕ) → c < d → b < columns → marks c b ≡ false) → worst marks rows 0 0 columns ≡ worst marks rows d 0 columns
+  skip-rows columns zero h none = refl
+  skip-rows columns (suc d) h none =
+      skip-rows columns d (omega arith) (λ c b l u. none c b (omega arith) u)
+      ∙ skip-row columns d 0 columns (omega arith) (omega arith) (λ b u. none d b (omega arith) u)
+
+-- a matrix whose first rows are left out
+rows-shifted :
+    (marks other : Matrix) (d rows columns : ℕ)
+    → ((i j : ℕ) → i < rows → j < columns → marks (d + i) j ≡ other i j)
+    → (k n i j : ℕ)
+    → n ≡ rows - i
+    → j + k ≡ columns
+    → worst marks (d + rows) (d + i) j k ≡ worst other rows i j k
+unfolding worst
+rows-shifted marks other d rows columns same zero n i j e f = refl
+rows-shifted marks other d rows columns same (suc k) zero i j e f =
+    worst-past marks (d + rows) (d + i) j (suc k) (omega arith) ∙ sym (worst-past other rows i j (suc k) (omega arith))
+rows-shifted marks other d rows columns same (suc k) (suc n) i j e f =
+    let next : suc (d + i) ≡ d + suc i = omega arith in
+    worst-row marks (d + rows) (d + i) j k (omega arith)
+    ∙ ap₂ (λ (x y : ℕ). max x y)
+    (ap₂ (λ (x : Bool) (y : ℕ). one x + y) (same i j (omega arith) (omega arith)) (rows-shifted marks other d rows columns same k (suc n) i (suc j) e (omega arith)))
+    (ap (λ (x : ℕ). worst marks (d + rows) x j (suc k)) next ∙ rows-shifted marks other d rows columns same (suc k) n (suc i) j (omega arith) f)
+    ∙ sym (worst-row other rows i j k (omega arith))
 
 -- THE FIGURE BY COLUMNS
 pub figure-by-columns :
     (rows disturbers l h columns : List ℕ)
     → Disturbers rows disturbers
-    → length h ≤ stepBytes * mostSteps
-    → Columns rows disturbers h (stepsIn h) columns
+    → length l ≤ stepBytes * mostSteps
+    → Columns rows disturbers l (stepsIn l) columns
     → AllWithin rows l
     → AllWithin rows h
-    → worstPath (matrixBy columns l) (stepsIn l) mostSteps ≡ worstPath (marksOf rows l h) (stepsIn l) (stepsIn h)
+    → worstPath (matrixBy columns h) mostSteps (stepsIn h) ≡ worstPath (marksOf rows l h) (stepsIn l) (stepsIn h)
 unfolding worstPath
 figure-by-columns rows disturbers l h columns d short c all other =
-    let n : ℕ = stepsIn h in
+    let n : ℕ = stepsIn l in
     let free : ℕ = mostSteps - n in
     let e : mostSteps ≡ free + n = omega arith in
-    ap (worst (matrixBy columns l) (stepsIn l) 0 0) e
-    ∙ skip (matrixBy columns l) (stepsIn l) free 0 n
-    (λ i b g p q. unmarked rows disturbers d h columns short c other (stepIn l i) (mostSteps - suc b) (all i (omega arith)) (omega arith) (omega arith))
-    ∙ ap (λ (j : ℕ). worst (matrixBy columns l) (stepsIn l) 0 j n) (omega arith)
-    ∙ worst-shifted (matrixBy columns l) (marksOf rows l h) (stepsIn l) free n 0 0
-    (λ i b g p.
-    let back : n - suc (mostSteps - suc (free + b)) ≡ b = omega arith in
-    marked-conflict rows disturbers d h columns short c other (stepIn l i) (mostSteps - suc (free + b)) (all i (omega arith)) (omega arith)
-    ∙ ap (λ (k : ℕ). conflict (disturbsIn rows) (stepIn l i) (stepIn h k)) back)
+    skip-rows (matrixBy columns h) mostSteps (stepsIn h) free (omega arith)
+    (λ i j p q. unmarked rows disturbers d l columns short c all (stepIn h j) (mostSteps - suc i) (other j (omega arith)) (omega arith) (omega arith))
+    ∙ ap₂ (λ (r i : ℕ). worst (matrixBy columns h) r i 0 (stepsIn h)) e (omega arith)
+    ∙ rows-shifted (matrixBy columns h) (marksOf rows l h) free n (stepsIn h)
+    (λ i j p q.
+    let back : n - suc (mostSteps - suc (free + i)) ≡ i = omega arith in
+    marked-conflict rows disturbers d l columns short c all (stepIn h j) (mostSteps - suc (free + i)) (other j (omega arith)) (omega arith)
+    ∙ ap (λ (k : ℕ). conflict (disturbsIn rows) (stepIn h j) (stepIn l k)) back
+    ∙ conflict-symmetric (disturbsIn rows) (stepIn h j) (stepIn l i))
+    (stepsIn h) n 0 0 (omega arith) (omega arith)

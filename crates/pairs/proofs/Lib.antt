@@ -1,7 +1,7 @@
 -- Laws that the proofs of this crate's functions, and those above it, cite.
 pub mod PathLaws
 pub mod InterferenceLaws
-pub mod JoinedLaws
 pub mod SpreadLaws
+pub mod RisesLaws
 pub mod GatherLaws
 pub mod Unique

@@ -1,6 +1,6 @@
 -- The interference of two flows is that of the parts of a steps section that hold their plans. Leans on the plans' StepsLaws. Assumes
 -- nothing.
-use Prim.Native.Nat.{ℕ, _+_, _-_, _*_, _≤_}
+use Prim.Native.Nat.{ℕ, _+_, _*_, _≤_}
 use mathlib.Core.Path.{_≡_, sym, ap₂}
 use mathlib.Core.List.{List}
 use lib.ListN.{length}

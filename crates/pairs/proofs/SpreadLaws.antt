@@ -20,7 +20,7 @@ use Rattle.trade.proofs.First.{lt-or-ge}
 use Rattle.nodes.specs.Mask.{only}
 use Rattle.pairs.specs.Columns.{Spread, fromEnd, receiving, sending, Columns, Noted}
 use Rattle.nodes.proofs.MaskLaws.{bit-none, bit-or, bit-only, bit-below, bit-past}
-use Rattle.nodes.proofs.OnesLaws.{Lowest, and-false, and-true}
+use Rattle.nodes.proofs.LowestLaws.{Lowest, and-false, and-true}
 
 -- a mark spread over the nodes that are not left
 pub record Spreading (nodes mark rest : ℕ) (before table : List ℕ) : Type 0 where

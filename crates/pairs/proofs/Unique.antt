@@ -16,8 +16,8 @@ use Rattle.nodes.proofs.MaskLaws.{same-bits}
 use Rattle.pairs.proofs.columns.disturbers.Kinds as disturbers-kinds
 use Rattle.pairs.proofs.columns.disturbers.Reads as disturbers
 use Rattle.pairs.proofs.columns.gather.Reads as gather
-use Rattle.pairs.proofs.columns.figure.Kinds as figure-kinds
-use Rattle.pairs.proofs.columns.figure.Reads as figure
+use Rattle.pairs.proofs.rises.figure.Kinds as figure-kinds
+use Rattle.pairs.proofs.rises.figure.Reads as figure
 use Rattle.pairs.proofs.interference.interference.Kinds as interference-kinds
 use Rattle.pairs.proofs.interference.interference.Reads as interference
 

@@ -1,17 +1,16 @@
 -- The columns of a plan: for each node, the steps of the plan that conflict with what it sends or receives. The steps are counted from the
 -- plan's last. Leans on Line and Network.
-use Prim.Native.Nat.{ℕ, suc, _+_, _-_, _/_, _≤_, _<_, min, max}
+use Prim.Native.Nat.{ℕ, suc, _+_, _-_, _/_, _≤_, _<_, min}
 use mathlib.Core.Path.{_≡_}
 use mathlib.Core.Bool.{Bool, cond, _&&_, _||_}
 use mathlib.Core.List.{List}
 use lib.Dec.{eqb, ltb}
 use lib.Bits.{bitOr}
-use lib.Count.{onesIn}
 use lib.ListN.{length, getD}
 use Rattle.trade.specs.Limits.{mostNodes, mostSteps, rowBytes}
 use Rattle.trade.specs.Bytes.{bit}
 use Rattle.trade.specs.Facts.{disturbsIn, stepIn}
-use Rattle.trade.specs.Interference.{Matrix, one}
+use Rattle.trade.specs.Interference.{Matrix}
 use Rattle.trade.specs.declared.node.Transmission.{Transmission}
 use Rattle.plans.specs.Plan.{stepsIn}
 
@@ -52,19 +51,9 @@ pub record Columns (rows disturbers plan : List ℕ) (k : ℕ) (columns : List �
 unfoldable pub markedAt : List ℕ → Transmission → ℕ → Bool
 markedAt columns t b = bit (getD columns (t .sender .0) 0) (mostSteps + b) || bit (getD columns (t .receiver .0) 0) b
 
--- the conflict matrix that the columns say
+-- the conflict matrix that the columns of l say for a plan h: its rows are the steps of l, its last row that of the plan's last step
 abbrev pub matrixBy : List ℕ → List ℕ → Matrix
-matrixBy columns l i j = markedAt columns (stepIn l i) (mostSteps - suc j)
-
--- one row worked into a set of bits. The bits below k count what is reached over the last k steps of h: as much as without the row, or
--- one step less, counted on, and the mark there
-abbrev pub Joined : ℕ → ℕ → ℕ → Type 0
-Joined marks before after = (k : ℕ) → onesIn (suc k) after ≡ max (onesIn (suc k) before) (one (bit marks k) + onesIn k after)
-
--- one mark taken into a set of bits: past it, as much is counted as before, or what is counted below it and one
-pub record Marked (p before after : ℕ) : Type 0 where
-  pub below : (k : ℕ) → k ≤ p → onesIn k after ≡ onesIn k before
-  pub above : (k : ℕ) → p < k → onesIn k after ≡ max (onesIn k before) (1 + onesIn p before)
+matrixBy columns h i j = markedAt columns (stepIn h j) (mostSteps - suc i)
 
 -- one step noted in the columns, the b-th from the end
 pub record Noted (rows disturbers : List ℕ) (u : Transmission) (b : ℕ) (before after : List ℕ) : Type 0 where

@@ -1,3 +1,4 @@
 -- Definitions that the contracts of this crate cite beside those of the trade.
 pub mod Line
 pub mod Columns
+pub mod Rises

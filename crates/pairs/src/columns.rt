@@ -1,5 +1,5 @@
-// Interference through columns. The columns of a plan are gathered once: for each node, the steps of the plan that conflict with what the
-// node sends or receives. With them the plan's interference on any other takes a few operations for each step of that other.
+// The columns of a plan, gathered once: for each node, the steps of the plan that conflict with what the node sends or receives, as bits.
+// With them the steps that any transmission conflicts with are read at once.
 ghost use mathlib.Core.Path.{_≡_};
 ghost use mathlib.Core.Bool.{_&&_};
 ghost use Prim.Native.Nat.{ℕ, _+_, _*_, _≤_, _<_, min};
@@ -11,7 +11,7 @@ ghost use Rattle.trade.specs.Facts.{stepIn};
 ghost use Rattle.trade.specs.Interference.{worstPath};
 ghost use Rattle.nodes.specs.Network.{Within};
 ghost use Rattle.plans.specs.Plan.{AllWithin, stepsIn};
-ghost use Rattle.pairs.specs.Columns.{Spread, Disturbers, Noted, Gathered, markedAt, matrixBy, Marked, Joined};
+ghost use Rattle.pairs.specs.Columns.{Spread, Disturbers, Noted, Gathered, markedAt};
 use nodes::mask::only;
 use nodes::mask::row_mask;
 use plans::steps::step_at;
@@ -83,47 +83,11 @@ pub fn gather(rows: &[u8], disturbers: &[u64], plan: &[u8], columns: &mut [u64])
 }
 
 // The steps that a transmission conflicts with, by the columns.
-fn marks_of(columns: &[u64], t: Transmission) -> u64
+pub(crate) fn marks_of(columns: &[u64], t: Transmission) -> u32
     requires { ⌜ (t .sender .0 < length (now columns)) × (t .receiver .0 < length (now columns)) ⌝ }
     ensures { λ r. ⌜ ((b : ℕ) → bit r b ≡ (ltb b mostSteps && markedAt (now (columns .entry)) t b)) ⌝ }
 {
     let sent = columns[t.sender.0 as usize];
     let received = columns[t.receiver.0 as usize];
-    (sent >> Plan::MOST) | (received % (1 << Plan::MOST))
-}
-
-// A mark taken into a set: its bit is set, and the next bit at or above it is cleared.
-fn with_mark(set: u64, p: u32) -> u64
-    requires { ⌜ p < 64 ⌝ }
-    ensures { λ r. ⌜ Marked p set r ⌝ }
-{
-    let mark = 1 << p;
-    (set & std::num::wrapping_sub_u64(set, mark)) | mark
-}
-
-// A row of marks worked into a set, the lowest first. A mark whose bit is set changes nothing.
-fn joined(before: u64, marks: u64) -> u64
-    ensures { λ r. ⌜ Joined marks before r ⌝ }
-{
-    let mut set = before;
-    let mut open = marks & (marks ^ set);
-    while open != 0 {
-        set = with_mark(set, u64::trailing_zeros(open));
-        open = marks & (marks ^ set);
-    }
-    set
-}
-
-// The interference, on a plan l, of the plan whose columns these are.
-pub fn figure(columns: &[u64], l: &[u8]) -> usize
-    requires { ⌜ (mostNodes ≤ length (now columns)) × ((k : ℕ) → stepBytes * k + 1 < length (now l) → (stepIn (now l) k .sender .0 < mostNodes) × (stepIn (now l) k .receiver .0 < mostNodes)) ⌝ }
-    ensures { λ r. ⌜ r ≡ worstPath (matrixBy (now (columns .entry)) (now (l .entry))) (stepsIn (now (l .entry))) mostSteps ⌝ }
-{
-    let mut set: u64 = 0;
-    let mut i = step_count(l);
-    while i > 0 {
-        i -= 1;
-        set = joined(set, marks_of(columns, step_at(l, i)));
-    }
-    u64::count_ones(set) as usize
+    ((sent >> Plan::MOST) as u32) | ((received % (1 << Plan::MOST)) as u32)
 }

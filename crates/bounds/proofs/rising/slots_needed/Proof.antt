@@ -31,6 +31,13 @@ loop-holds : tie.Need-loop-holds Inv-loop μ-loop
 unfolding neededIn sumTo
 loop-holds c = (omega arith, omega arith, omega arith)
 
+-- what the arrays hold of a flow above fits
+cast-instances : tie.Need-cast-instances Inv-loop μ-loop
+cast-instances c = record { fits = omega (arith, c .before .before .before .pre .0 .carry (c .before .before .loop .h) (omega arith)) }
+
+cast-instances-2 : tie.Need-cast-instances-2 Inv-loop μ-loop
+cast-instances-2 c = record { fits = omega (arith, c .before .before .before .before .pre .0 .period (c .before .before .before .loop .h) (omega arith) .1) }
+
 instances-requires : tie.Need-instances-requires Inv-loop μ-loop
 instances-requires c κs =
     let s = c .before .before .before .before in
@@ -79,6 +86,6 @@ returns c =
 
 pub slots-needed-spec : {M : Type 1} → statement M
 slots-needed-spec =
-    tie.close (tie.spec Inv-loop μ-loop loop-holds (λ c. omega arith) (λ c. omega arith) (λ c. omega arith) (λ c. omega arith)
-    instances-requires (λ c. omega arith) (λ c. omega arith) mul-sum-2 add-sum (λ c. omega arith) (λ c. omega arith) loop-again
-    returns)
+    tie.close (tie.spec Inv-loop μ-loop loop-holds (λ c. omega arith) (λ c. omega arith) cast-instances (λ c. omega arith)
+    (λ c. omega arith) cast-instances-2 instances-requires (λ c. omega arith) (λ c. omega arith) mul-sum-2 add-sum (λ c. omega arith)
+    (λ c. omega arith) loop-again returns)

@@ -7,6 +7,9 @@ use borrow.Author.Needs.{needs}
 use Rattle.pairs.proofs.columns.marks_of.Statement.{statement}
 use Rattle.pairs.proofs.columns.marks_of.Tie as tie
 
+cast-result : tie.Need-cast-result
+cast-result c = record { fits = omega (arith, c .shared-slice-known2 .given (c .before .before .before .before .args .t .sender .0)) }
+
 returns : tie.Need-returns
 unfolding markedAt
 returns c b =
@@ -17,4 +20,4 @@ returns c b =
 pub marks-of-spec : {M : Type 1} → statement M
 marks-of-spec =
     tie.close (tie.spec (λ c. search needs) (λ c. search needs) (λ c. search needs) (λ c. search needs) (λ c. search needs)
-    (λ c. search needs) (λ c. search needs) (λ c. search needs) (λ c. search needs) returns)
+    (λ c. search needs) (λ c. search needs) cast-result (λ c. search needs) (λ c. search needs) (λ c. search needs) returns)

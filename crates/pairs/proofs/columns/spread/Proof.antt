@@ -6,7 +6,7 @@ use native.Mathlib.Omega.{arith}
 use lib.Bits.{and-le-l, and-le-r}
 use lib.Count.{trailingZeros, trailing-le}
 use lib.ListN.{length}
-use Rattle.nodes.proofs.OnesLaws.{Lowest, trailing-lowest}
+use Rattle.nodes.proofs.LowestLaws.{Lowest, trailing-lowest}
 use Rattle.pairs.proofs.SpreadLaws.{Spreading, spreading-none, spreading-more, spreading-all}
 use Rattle.pairs.proofs.columns.spread.Statement.{statement}
 use Rattle.pairs.proofs.columns.spread.Tie as tie

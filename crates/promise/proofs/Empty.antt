@@ -5,7 +5,7 @@ use mathlib.Core.Path.{_≡_, refl, sym, _∙_, ap}
 use mathlib.Core.List.{List}
 use native.Mathlib.Omega.{arith}
 use native.Mathlib.Nat.{le-antisymm, zero-add}
-use lib.ListN.{length, getD, length-replicate}
+use lib.ListN.{length, getD, take, length-replicate}
 use Rattle.trade.specs.Limits.{areaBytes, grantBytes, endOfClock}
 use Rattle.trade.specs.Bytes.{word, part, over}
 use Rattle.trade.specs.Layout.{trailer, flowCount, recordsDistance, sectionsOf, field}
@@ -22,8 +22,8 @@ use Rattle.trade.proofs.Bound.{bound-smallest}
 use Rattle.trade.proofs.Calls.{advance-done}
 use Rattle.trade.proofs.Cases.{cases-hold}
 use Rattle.trade.proofs.Answers.{passed-done}
-use Rattle.promise.specs.Demands.{Program, Always, Done, Refused, reported, Ran, RunBy, HasRun, areaBefore, releaseOf, deadlineSlot, Kept, Honoured, Demand2, Demand3}
-use Rattle.promise.specs.Empty.{Answers, Accepting, StopsAt, TurnedAway}
+use Rattle.promise.specs.Demands.{Program, Answers, Always, Done, Refused, reported, Ran, RunBy, HasRun, areaBefore, releaseOf, deadlineSlot, Kept, Honoured, Demand2, Demand3}
+use Rattle.promise.specs.Empty.{Accepting, StopsAt, TurnedAway}
 use Rattle.promise.proofs.Accepted.{book-passed, accepted-admissible, reported-bound}
 
 -- what check says of the two books
@@ -44,6 +44,10 @@ flows-B = refl
 bound-A : bound (said bookA) 0 ≡ 3
 bound-A =
     sym (reported-bound measure bookA accepts-A 0 (omega (arith, flows-A))) ∙ ap (λ (c : Checked). getD (c .bounds) 0 0) (cases-hold .case3)
+
+bound-A-below : bound (said bookA) 1 ≡ 7
+bound-A-below =
+    sym (reported-bound measure bookA accepts-A 1 (omega (arith, flows-A))) ∙ ap (λ (c : Checked). getD (c .bounds) 1 0) (cases-hold .case3)
 
 bound-B : bound (said bookB) 0 ≡ 5
 bound-B =
@@ -117,6 +121,24 @@ module _ (p : Program) (answers : Answers p) where
   refusing-all : Always (p .check) (λ b given. Refused (given .answer)) → Demand2 p → ⊥
   refusing-all refuses d = refuses bookA _ (answers .check bookA .1) (accepts d bookA accepts-A)
 
+  -- ONE CONSTANT BOUND: the smallest bounds of book A differ
+  same-bound :
+      (one-bound : ℕ)
+      → Always (p .check) (λ b given. Done (given .answer) → (l : ℕ) → l < said b .flows → reported given l ≡ one-bound)
+      → Demand2 p
+      → ⊥
+  same-bound one-bound same d =
+      let is = same bookA _ (answers .check bookA .1) (accepts d bookA accepts-A) in
+      omega (
+        arith,
+        bound-A,
+        bound-A-below,
+        is 0 (omega (arith, flows-A)),
+        is 1 (omega (arith, flows-A)),
+        reports d bookA accepts-A 0 (omega (arith, flows-A)),
+        reports d bookA accepts-A 1 (omega (arith, flows-A)),
+      )
+
   -- ONE CONSTANT BOUND LIST: the smallest bounds of books A and B differ
   same-bounds : (bounds : List ℕ) → Always (p .check) (λ b given. Done (given .answer) → given .bounds ≡ bounds) → Demand2 p → ⊥
   same-bounds bounds same d =
@@ -131,15 +153,15 @@ module _ (p : Program) (answers : Answers p) where
   -- ONE CONSTANT GRANT LIST: slot 2 of book A grants flow 7, and slot 3 flow 9
   same-grants :
       (grants : List ℕ) (count : ℕ)
-      → Always (p .advance) (λ a given. Done (given .answer) → (given .answer .number ≡ count) × (given .grants ≡ over grants (a .grants)))
+      → Always (p .advance) (λ a given. Done (given .answer) → (given .answer .number ≡ count) × (given .grants ≡ take (length (a .grants)) (over grants (a .grants))))
       → Demand2 p
       → ⊥
   unfolding slot-A
   same-grants grants count same d =
-      let seven : getD (over grants (grantRoom bookA)) 1 0 ≡ 7
+      let seven : getD (take (length (grantRoom bookA)) (over grants (grantRoom bookA))) 1 0 ≡ 7
       = ap (λ (bs : List ℕ). getD bs 1 0) (sym (same (slot-A 2) _ (answers .advance (slot-A 2) .1) (ap (λ (a : Advanced). a .answer .code) (slot-2 d ∙ cases-hold .case5-slot2)) .1))
       ∙ ap (λ (a : Advanced). getD (a .grants) 1 0) (slot-2 d ∙ cases-hold .case5-slot2) in
-      let nine : getD (over grants (grantRoom bookA)) 1 0 ≡ 9
+      let nine : getD (take (length (grantRoom bookA)) (over grants (grantRoom bookA))) 1 0 ≡ 9
       = ap (λ (bs : List ℕ). getD bs 1 0) (sym (same (slot-A 3) _ (answers .advance (slot-A 3) .1) (ap (λ (a : Advanced). a .answer .code) (slot-3 d ∙ cases-hold .case5-slot3)) .1))
       ∙ ap (λ (a : Advanced). getD (a .grants) 1 0) (slot-3 d ∙ cases-hold .case5-slot3) in
       omega arith
@@ -221,6 +243,7 @@ module _ (p : Program) (answers : Answers p) where
   empty-programs-turned-away =
       record {
         refusing-all = refusing-all;
+        same-bound = same-bound;
         same-bounds = same-bounds;
         same-grants = same-grants;
         granting-nothing = granting-nothing;

@@ -1,5 +1,5 @@
 -- Demand 2, of the program that the definitions describe and so of every program that meets its contracts. Assumes nothing.
-use Prim.Native.Nat.{ℕ, _-_, _≤_}
+use Prim.Native.Nat.{ℕ, _-_, _≤_, _<_}
 use mathlib.Core.Path.{_≡_, _∙_}
 use mathlib.Core.List.{List}
 use native.Mathlib.Omega.{arith}
@@ -8,12 +8,15 @@ use Rattle.trade.specs.Bytes.{Bytes, over}
 use Rattle.trade.specs.Layout.{rowsDistance, sectionsOf}
 use Rattle.trade.specs.Table.{InMemory, bookOf, tableOf}
 use Rattle.trade.specs.Answers.{done, isDone, noNumber}
+use Rattle.trade.specs.Facts.{said}
+use Rattle.trade.specs.Interference.{IsInterference}
 use Rattle.trade.specs.Bound.{measure}
 use Rattle.trade.specs.Slot.{releasesOf, greedy}
 use Rattle.trade.specs.Calls.{Writing, bookRules, readAnswer, writeAnswer, addAnswer, removeAnswer, startAnswer, readOf, writeOf, addOf, removeOf, startOf, startBy, advanceOf, advanceBy}
 use Rattle.promise.specs.Demands.{Program, planner, Done, Decides, Demand2}
 use Rattle.trade.proofs.Answers.{done-first, Passed, firstOf-passed}
-use Rattle.trade.proofs.Valid.{table-valid}
+use Rattle.trade.proofs.Valid.{table-valid, book-valid}
+use Rattle.trade.proofs.Interference.{interference-largest}
 use Rattle.trade.proofs.Calls.{read-done, write-done, advance-done, written-passed, written-book, written}
 use Rattle.trade.proofs.Whole.{passed-framed}
 use Rattle.trade.proofs.Used.{roomy, in-memory-holds}
@@ -54,6 +57,12 @@ read-write b buffer bytes e room =
     = length-drop (length b - rowsDistance b) b ∙ omega (arith, passed-framed b passed .rows) in
     rw (reads b e)
     (written (tableOf (sectionsOf b)) buffer (read-passes b passed) (rw (same, long) room) ∙ rw (same, long))
+
+-- WHAT THE BOUND COUNTS is the customer's I: of a book, the largest count that any choice reaches
+pub counts-interference : (b : List ℕ) → Done (readAnswer b) → (l h : ℕ) → l < said b .flows → IsInterference (said b) l h (measure (said b) .cost l h)
+unfolding readAnswer
+counts-interference b e l h below =
+    interference-largest (said b) l h (book-valid b (firstOf-passed bookRules noNumber b e) .records l below .len .least)
 
 -- DEMAND 2 is kept by the program that the definitions describe,
 pub planner-keeps-demand-2 : Demand2 planner

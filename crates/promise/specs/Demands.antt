@@ -23,7 +23,8 @@ use Rattle.trade.specs.declared.clock.Step.{Step}
 use Rattle.trade.specs.declared.state.Grant.{Grant}
 
 -- a program: of each of the seven calls, what it may give for all that it is handed. A call that gave nothing at all would keep
--- every demand below; that each of ours ends with a result is what the check of the code shows
+-- every demand below; that each of ours ends with a result is what the check of the code shows, and that its contract can be met is shown
+-- by `Answers`
 pub record Program : Type 1 where
   pub read : List ℕ → Got → Type 0
   pub check : List ℕ → Checked → Type 0
@@ -32,6 +33,16 @@ pub record Program : Type 1 where
   pub remove : Removing → Changed → Type 0
   pub start : Starting → Started → Type 0
   pub advance : Advancing → Advanced → Type 0
+
+-- a program that gives something for whatever it is handed
+pub record Answers (p : Program) : Type 0 where
+  pub read : (b : List ℕ) → (given : Got) × p .read b given
+  pub check : (b : List ℕ) → (given : Checked) × p .check b given
+  pub write : (w : Writing) → (given : Written) × p .write w given
+  pub add : (a : Adding) → (given : Changed) × p .add a given
+  pub remove : (r : Removing) → (given : Changed) × p .remove r given
+  pub start : (s : Starting) → (given : Started) × p .start s given
+  pub advance : (a : Advancing) → (given : Advanced) × p .advance a given
 
 -- the program that the definitions describe, by a measure and a rule of waiting: each call gives what its definition says
 abbrev pub plannerBy : (Facts → Measure) → Waits → Program

@@ -1,19 +1,15 @@
--- Empty programs, which the demands turn away: any program with such a call, whatever else it does. Leans on Demands.
+-- Empty programs, which the demands turn away: any program with such a call, whatever else it does, as long as it gives something for
+-- whatever it is handed, be it bytes or other numbers. Leans on Demands.
 use Prim.Native.Nat.{ℕ, suc, _*_, _≤_, _<_}
 use mathlib.Core.Path.{_≡_}
 use mathlib.Core.List.{List}
-use lib.ListN.{length}
+use lib.ListN.{length, take}
 use Rattle.trade.specs.Limits.{endOfClock}
 use Rattle.trade.specs.Bytes.{over}
-use Rattle.trade.specs.Calls.{Checked, Starting, Started, Advancing, Advanced, checkAnswer, flowsGranted, advanceAnswer}
+use Rattle.trade.specs.Facts.{said}
+use Rattle.trade.specs.Calls.{Advancing, Advanced, checkAnswer, flowsGranted, advanceAnswer}
 use Rattle.trade.specs.declared.clock.Slot.{Slot}
 use Rattle.promise.specs.Demands.{Program, Done, Refused, Always, reported, Ran, RunBy, HasRun, Demand2, Demand3}
-
--- a program that gives something for whatever it is handed
-pub record Answers (p : Program) : Type 0 where
-  pub check : (b : List ℕ) → (given : Checked) × p .check b given
-  pub start : (s : Starting) → (given : Started) × p .start s given
-  pub advance : (a : Advancing) → (given : Advanced) × p .advance a given
 
 -- its check accepts what is to be accepted, whatever bounds it reports
 abbrev pub Accepting : Program → Type 0
@@ -27,16 +23,24 @@ StopsAt k p = (x : Ran) → RunBy p x → (t : Slot) → k ≤ t .0 → HasRun x
 pub record TurnedAway (p : Program) : Type 0 where
   -- demand 2: acceptance happens when bounds exist
   pub refusing-all : Always (p .check) (λ b checked. Refused (checked .answer)) → Demand2 p → ⊥
-  -- demand 2: smallest bound, and greedy choice: one constant bound list, and one constant grant list with a constant count
+  -- demand 2: smallest bound, and greedy choice: one constant bound, one constant bound list, and one constant grant list, written over
+  -- as much as is lent, with a constant count
+  pub same-bound :
+      (bound : ℕ)
+      → Always (p .check) (λ b checked. Done (checked .answer) → (l : ℕ) → l < said b .flows → reported checked l ≡ bound)
+      → Demand2 p
+      → ⊥
   pub same-bounds :
       (bounds : List ℕ) → Always (p .check) (λ b checked. Done (checked .answer) → checked .bounds ≡ bounds) → Demand2 p → ⊥
   pub same-grants :
       (grants : List ℕ) (count : ℕ)
       → Always (p .advance)
-      (λ a advanced. Done (advanced .answer) → (advanced .answer .number ≡ count) × (advanced .grants ≡ over grants (a .grants)))
+      (λ a advanced.
+      Done (advanced .answer)
+      → (advanced .answer .number ≡ count) × (advanced .grants ≡ take (length (a .grants)) (over grants (a .grants))))
       → Demand2 p
       → ⊥
-  -- demands 2 and 3: an advance that, where it is done, counts no grants
+  -- demand 2: an advance that, where it is done, counts no grants; what demand 3 says of it stands below, at k = 0
   pub granting-nothing : Always (p .advance) (λ a advanced. Done (advanced .answer) → advanced .answer .number ≡ 0) → Demand2 p → ⊥
   -- demand 3, over any number of slots: one that works for some slots and then no more, while book A has an instance to come; whatever
   -- bounds its check reports
@@ -44,7 +48,7 @@ pub record TurnedAway (p : Program) : Type 0 where
   -- such as bounds past the end of the clock, within which nothing would be owed
   pub bounds-past-the-clock :
       Accepting p
-      → Always (p .check) (λ b checked. (l : ℕ) → endOfClock < reported checked l)
+      → Always (p .check) (λ b checked. Done (checked .answer) → (l : ℕ) → l < said b .flows → endOfClock < reported checked l)
       → StopsAt 0 p
       → Demand3 p
       → ⊥

@@ -7,7 +7,7 @@ use Rattle.trade.specs.Limits.{packing}
 use Rattle.trade.specs.Answers.{packedOf}
 use Rattle.trade.specs.Bound.{measure}
 use Rattle.trade.specs.Slot.{greedy, releasesOf}
-use Rattle.trade.specs.Calls.{Checked, readOf, checkOf, checkBy, writeOf, addOf, removeOf, startOf, startBy, advanceOf, advanceBy}
+use Rattle.trade.specs.Calls.{readOf, checkOf, checkBy, writeOf, addOf, removeOf, startOf, startBy, advanceOf, advanceBy}
 use Rattle.trade.specs.declared.answer.Answer.{Answer}
 use Rattle.trade.proofs.Numbers.{check-number, start-number, advance-number}
 use Rattle.promise.specs.Demands.{Always, planner}
@@ -60,13 +60,10 @@ unpacked-packed n a h e =
 -- THE THREE CALLS FOR C
 pub slot-check-planned : Always (forC .check) (planner .check)
 unfolding checkBy
-slot-check-planned b given (n, (κs, a, s, p, i), o, c, k, bounds) =
-    let planned : c ≡ checkOf b = check-planned b c k in
-    let answer : given .answer ≡ checkOf b .answer
-    = o
-    ∙ unpacked-packed n _ (check-number measure _) (p .answer)
-    ∙ ap (λ (x : List ℕ). checkOf x .answer) (sym i) in
-    λ t. record { answer = answer t; bounds = (bounds ∙ ap (λ (x : Checked). x .bounds) planned) t }
+slot-check-planned b given (n, (κs, a, s, p, i), o) =
+    let answer : unpacked n ≡ checkOf b .answer
+    = unpacked-packed n _ (check-number measure _) (p .answer) ∙ ap (λ (x : List ℕ). checkOf x .answer) (sym i) in
+    o ∙ (λ t. record { answer = answer t; bounds = checkOf b .bounds })
 
 pub slot-start-planned : Always SlotStart (planner .start)
 unfolding startBy

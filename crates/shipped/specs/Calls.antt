@@ -6,7 +6,7 @@ use mathlib.Core.Path.{_≡_}
 use mathlib.Core.List.{List}
 use denote.Ref.{now}
 use Rattle.trade.specs.Limits.{packing}
-use Rattle.trade.specs.Calls.{Got, Checked, Writing, Written, Adding, Removing, Changed, Starting, Started, Advancing, Advanced}
+use Rattle.trade.specs.Calls.{Got, Checked, Writing, Written, Adding, Removing, Changed, Starting, Started, Advancing, Advanced, checkOf}
 use Rattle.trade.specs.declared.answer.Answer.{Answer}
 use Rattle.table.specs.Table.{sectionsIn}
 use Rattle.promise.specs.Demands.{Program}
@@ -96,13 +96,13 @@ SlotAdvance i given =
     × (i ≡ record { book = now (a .0); area = now (a .1 .0); grants = now (a .1 .1 .0) })
     × (given ≡ record { answer = unpacked n; area = now (s .1 .0); grants = now (s .1 .1 .0) })
 
--- the program as C calls it: `slot_check` answers without bounds, which are those that check reports; tables are read, written and changed
--- by the calls above
+-- the program as C calls it: `slot_check` answers without bounds, and those that a run from C is held to are the ones of the definitions;
+-- tables are read, written and changed by the calls above
 abbrev pub forC : Program
 forC =
     record {
       read = Read;
-      check = λ b given. (n : ℕ) × SlotCheck b n × (given .answer ≡ unpacked n) × (c : Checked) × Check b c × (given .bounds ≡ c .bounds);
+      check = λ b given. (n : ℕ) × SlotCheck b n × (given ≡ record { answer = unpacked n; bounds = checkOf b .bounds });
       write = Write;
       add = Add;
       remove = Remove;

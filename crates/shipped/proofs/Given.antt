@@ -1,0 +1,89 @@
+-- The calls that ship are no empty relations: for whatever a call is handed, something is given that meets its contract. Assumes nothing.
+use Prim.Native.Nat.{ℕ}
+use mathlib.Core.Path.{refl}
+use mathlib.Core.List.{List}
+use base.Fml.{Lft}
+use denote.Ref.{RefT}
+use Rattle.trade.specs.Layout.{Sections}
+use Rattle.trade.specs.Answers.{packedOf}
+use Rattle.trade.specs.Calls.{Writing, Adding, Removing, Starting, Advancing, readOf, checkOf, writeOf, addOf, removeOf, startOf, advanceOf}
+use Rattle.table.specs.declared.table.Table.{Table}
+use Rattle.promise.specs.Demands.{Answers}
+use Rattle.shipped.specs.Calls.{Read, Check, Write, Add, Remove, Start, Advance, SlotCheck, shipped, forC}
+
+-- a list that is lent, and a table of counts and sections
+lent : List ℕ → RefT (List ℕ)
+lent b = record { ptr = (0, 0); name = 0; now = b }
+
+held : Sections → Table
+held s = record { nodes = s .nodes; flows = s .flows; rows = s .rows; records = s .records; steps = s .steps }
+
+module _ (κ : Lft) where
+  read-given : (b : List ℕ) → Read b (readOf b)
+  unfolding lent held
+  read-given b =
+      ((κ, tt), (lent b, tt), record { answer = readOf b .answer; table = held (readOf b .table) }, (lent b, tt), record { answer = refl; table = refl }, refl, refl)
+
+  check-given : (b : List ℕ) → Check b (checkOf b)
+  unfolding lent
+  check-given b =
+      ((κ, tt), (lent b, tt), record { answer = checkOf b .answer; bounds = checkOf b .bounds }, (lent b, tt), record { answer = refl; bounds = refl }, refl, refl)
+
+  write-given : (w : Writing) → Write w (writeOf w)
+  unfolding lent held
+  write-given w =
+      ((κ, tt), (held (w .table), (lent (w .buffer), tt)), writeOf w .answer, (held (w .table), (lent (writeOf w .buffer), tt)), record { answer = refl; buffer = refl }, refl, refl)
+
+  add-given : (a : Adding) → Add a (addOf a)
+  unfolding held
+  add-given a =
+      (tt, (held (a .table), (a .place, (a .flow, (a .plan, tt)))), record { answer = addOf a .answer; table = held (addOf a .table) }, (held (a .table), (a .place, (a .flow, (a .plan, tt)))), record { answer = refl; table = refl }, refl, refl)
+
+  remove-given : (a : Removing) → Remove a (removeOf a)
+  unfolding held
+  remove-given a =
+      (tt, (held (a .table), (a .place, tt)), record { answer = removeOf a .answer; table = held (removeOf a .table) }, (held (a .table), (a .place, tt)), record { answer = refl; table = refl }, refl, refl)
+
+  start-given : (i : Starting) → Start i (startOf i)
+  unfolding lent
+  start-given i =
+      ((κ, (κ, tt)), (lent (i .book), (lent (i .area), tt)), startOf i .answer, (lent (i .book), (lent (startOf i .area), tt)), record { answer = refl; area = refl }, refl, refl)
+
+  advance-given : (i : Advancing) → Advance i (advanceOf i)
+  unfolding lent
+  advance-given i =
+      ((κ, (κ, (κ, tt))), (lent (i .book), (lent (i .area), (lent (i .grants), tt))), advanceOf i .answer, (lent (i .book), (lent (advanceOf i .area), (lent (advanceOf i .grants), tt))), record { answer = refl; area = refl; grants = refl }, refl, refl)
+
+  -- of the calls for C, the numbers
+  slot-check-given : (b : List ℕ) → SlotCheck b (packedOf (checkOf b .answer))
+  unfolding lent
+  slot-check-given b = ((κ, tt), (lent b, tt), (lent b, tt), record { answer = refl }, refl)
+
+  pub shipped-answers : Answers shipped
+  shipped-answers =
+      record {
+        read = λ b. (readOf b, read-given b);
+        check = λ b. (checkOf b, check-given b);
+        write = λ w. (writeOf w, write-given w);
+        add = λ a. (addOf a, add-given a);
+        remove = λ r. (removeOf r, remove-given r);
+        start = λ s. (startOf s, start-given s);
+        advance = λ a. (advanceOf a, advance-given a);
+      }
+
+  pub for-c-answers : Answers forC
+  unfolding lent
+  for-c-answers =
+      record {
+        read = λ b. (readOf b, read-given b);
+        check = λ b. (_, (packedOf (checkOf b .answer), slot-check-given b, refl));
+        write = λ w. (writeOf w, write-given w);
+        add = λ a. (addOf a, add-given a);
+        remove = λ r. (removeOf r, remove-given r);
+        start =
+            λ i.
+            (_, ((κ, (κ, tt)), (lent (i .book), (lent (i .area), tt)), packedOf (startOf i .answer), (lent (i .book), (lent (startOf i .area), tt)), record { answer = refl; area = refl }, refl, refl));
+        advance =
+            λ i.
+            (_, ((κ, (κ, (κ, tt))), (lent (i .book), (lent (i .area), (lent (i .grants), tt))), packedOf (advanceOf i .answer), (lent (i .book), (lent (advanceOf i .area), (lent (advanceOf i .grants), tt))), record { answer = refl; area = refl; grants = refl }, refl, refl));
+      }

@@ -1,17 +1,15 @@
 // The response bounds of all flows of a book or a table, and code 9.
 ghost use mathlib.Core.Path.{_≡_};
-ghost use Prim.Native.Nat.{ℕ, _+_, _*_, _≤_, _<_};
-ghost use lib.ListN.{length, getD};
+ghost use Prim.Native.Nat.{ℕ, _+_, _≤_, _<_};
+ghost use lib.ListN.{getD};
 ghost use Rattle.trade.specs.Limits.{mostFlows, mostPeriod};
 ghost use Rattle.trade.specs.Layout.{field};
 ghost use Rattle.trade.specs.Facts.{factsIn};
 ghost use Rattle.trade.specs.Bound.{byInterference, boundBy};
-ghost use Rattle.pairs.specs.Columns.{Disturbers};
 ghost use Rattle.sections.specs.Formed.{Formed};
 ghost use Rattle.bounds.specs.Bounds.{refusedBy, boundedBy};
 use crate::rising::smallest;
 use figures::figures::figures_at;
-use pairs::columns::disturbers;
 use sections::records::record_at;
 use trade::Answer;
 use trade::Flow;
@@ -35,7 +33,6 @@ pub(crate) fn refused(answer: Answer) -> Checked
 // The bound of flow l, by the periods and the carry-in of the flows above it; its deadline + 1 where it has none.
 fn bound_at(
     rows: &[u8],
-    disturbers: &[u64],
     records: &[u8],
     steps: &[u8],
     l: usize,
@@ -43,13 +40,12 @@ fn bound_at(
     carries: &[u16; Flow::MOST],
 ) -> u32
     requires { ⌜ Formed (l + 1) (now rows) (now records) (now steps) ⌝ }
-    requires { ⌜ (0 < length (now disturbers) → Disturbers (now rows) (now disturbers)) ⌝ }
     requires { ⌜ ((h : ℕ) → h < l → getD (now periods) h 0 ≡ field (now records) h 2) ⌝ }
     requires { ⌜ ((h : ℕ) → h < l → getD (now carries) h 0 ≤ mostPeriod) ⌝ }
     ensures { λ r. ⌜ r ≡ boundBy (factsIn 0 0 (now (rows .entry)) (now (records .entry)) (now (steps .entry))) (byInterference (factsIn 0 0 (now (rows .entry)) (now (records .entry)) (now (steps .entry))) (λ h. getD (now (carries .entry)) h 0)) l ⌝ }
 {
     let flow = record_at(records, l);
-    let figures = figures_at(rows, disturbers, records, steps, l);
+    let figures = figures_at(rows, records, steps, l);
     smallest(
         flow.len as u32,
         flow.deadline as u32,
@@ -60,17 +56,9 @@ fn bound_at(
     )
 }
 
-// The bounds of all flows, or code 9 at the first flow that has none. The carry-in of a flow is its deadline. It is lent who disturbs whom, or
-// nothing, and each figure is then worked out by itself.
-fn bounds_with(
-    flows: usize,
-    rows: &[u8],
-    records: &[u8],
-    steps: &[u8],
-    disturbers: &[u64],
-) -> Checked
+// The bounds of all flows, or code 9 at the first flow that has none. The carry-in of a flow is its deadline.
+pub fn bounds_of(flows: usize, rows: &[u8], records: &[u8], steps: &[u8]) -> Checked
     requires { ⌜ Formed flows (now rows) (now records) (now steps) ⌝ }
-    requires { ⌜ (0 < length (now disturbers) → Disturbers (now rows) (now disturbers)) ⌝ }
     ensures { λ r. ⌜ r ≡ boundedBy (factsIn 0 flows (now (rows .entry)) (now (records .entry)) (now (steps .entry))) ⌝ }
 {
     let mut bounds = [0u16; Flow::MOST];
@@ -79,7 +67,7 @@ fn bounds_with(
     let mut l = 0;
     while l < flows {
         let flow = record_at(records, l);
-        let bound = bound_at(rows, disturbers, records, steps, l, &periods, &carries);
+        let bound = bound_at(rows, records, steps, l, &periods, &carries);
         if (flow.deadline as u32) < bound {
             return refused(Answer::refused(9, l as u64));
         }
@@ -92,20 +80,4 @@ fn bounds_with(
         answer: Answer::done(0),
         bounds,
     }
-}
-
-// Up to so many step bytes the columns cost more than they save.
-const FEW: usize = 48;
-
-// The bounds of all flows, or code 9.
-pub fn bounds_of(flows: usize, rows: &[u8], records: &[u8], steps: &[u8]) -> Checked
-    requires { ⌜ Formed flows (now rows) (now records) (now steps) ⌝ }
-    ensures { λ r. ⌜ r ≡ boundedBy (factsIn 0 flows (now (rows .entry)) (now (records .entry)) (now (steps .entry))) ⌝ }
-{
-    if steps.len() <= FEW {
-        let unknown = [0u64; 1];
-        return bounds_with(flows, rows, records, steps, &unknown[..0]);
-    }
-    let known = disturbers(rows);
-    bounds_with(flows, rows, records, steps, &known)
 }

@@ -7,9 +7,8 @@ use Rattle.trade.specs.Layout.{field, sections}
 use Rattle.trade.specs.Facts.{factsIn, factsOf, firstStep}
 use Rattle.trade.specs.Interference.{worstPath, interference}
 use Rattle.plans.specs.Plan.{stepsIn}
-use Rattle.pairs.specs.Line.{marksOf}
-use Rattle.pairs.specs.Columns.{Disturbers, Columns}
-use Rattle.pairs.proofs.InterferenceLaws.{worst-at-most}
+use Rattle.pairs.specs.Columns.{marksOf, Columns}
+use Rattle.pairs.proofs.RisesLaws.{worst-at-most}
 use Rattle.pairs.proofs.PathLaws.{interference-plans}
 use Rattle.pairs.proofs.GatherLaws.{figure-by-columns}
 use Rattle.sections.specs.Formed.{Formed, planAt}
@@ -36,16 +35,15 @@ figure-plans k rows records steps f l h p q =
 
 -- the figures that the columns of a plan give are those of its flow
 pub figure-columns :
-    (k : ℕ) (rows records steps disturbers columns : List ℕ) (l : ℕ)
+    (k : ℕ) (rows records steps columns : List ℕ) (l : ℕ)
     → Formed k rows records steps
-    → Disturbers rows disturbers
     → l < k
-    → Columns rows disturbers (planAt records steps l) (stepsIn (planAt records steps l)) columns
+    → Columns rows (planAt records steps l) (stepsIn (planAt records steps l)) columns
     → (h : ℕ)
     → h < k
     → figureBy columns (planAt records steps h) ≡ interference (factsIn 0 0 rows records steps) l h
-figure-columns k rows records steps disturbers columns l f d p c h q =
-    figure-by-columns rows disturbers (planAt records steps l) (planAt records steps h) columns d (length-plan k rows records steps f l p) c
+figure-columns k rows records steps columns l f p c h q =
+    figure-by-columns rows (planAt records steps l) (planAt records steps h) columns (length-plan k rows records steps f l p) c
     (plan-within k rows records steps f l p) (plan-within k rows records steps f h q)
     ∙ sym (figure-plans k rows records steps f l h p q)
 

@@ -11,7 +11,7 @@ use Rattle.trade.specs.First.{listTo, listFrom}
 use Rattle.trade.specs.Bytes.{padded}
 use Rattle.trade.proofs.First.{lt-or-ge}
 use Rattle.trade.proofs.Sums.{length-listTo, getD-listTo}
-use Rattle.pairs.proofs.InterferenceLaws.{zeros}
+use Rattle.pairs.proofs.SpreadLaws.{zeros}
 
 -- a list of room places that has a figure's values at the indices below n, and zeros behind
 abbrev pub filled : ℕ → (ℕ → ℕ) → ℕ → List ℕ

@@ -9,7 +9,6 @@ use borrow.Author.Tests.{ne-eqb}
 use Rattle.trade.specs.Bytes.{byte, bit}
 use Rattle.trade.specs.Facts.{disturbsIn}
 use Rattle.trade.specs.Conflict.{meet, conflict, conflictsWith}
-use Rattle.trade.proofs.Conflict.{conflict-symmetric}
 use Rattle.trade.specs.declared.node.Transmission.{Transmission}
 use Rattle.nodes.specs.Network.{Within}
 use Rattle.nodes.specs.Mask.{only, meets, rowMask}
@@ -46,16 +45,6 @@ part p p₁ p₂ q q₁ q₂ r r₁ s s₁ =
 pub holds-none : (rows : List ℕ) → Holds rows noGrants []
 unfolding Holds clashesWith conflictsWith
 holds-none rows t w = rw (bit-none (t .sender .0), bit-none (t .receiver .0), and-zero-r (rowMask rows (t .sender .0)))
-
--- a set that holds one grant is asked whether a transmission conflicts with it
-pub holds-one :
-    (rows : List ℕ) (set : GrantSet) (u t : Transmission)
-    → Holds rows set (u ∷ [])
-    → Within rows t
-    → clashesWith rows set t ≡ conflict (disturbsIn rows) t u
-unfolding Holds conflictsWith
-holds-one rows set u t h w =
-    h t w ∙ or-false (conflict (disturbsIn rows) u t) ∙ conflict-symmetric (disturbsIn rows) u t
 
 -- one more of a list at its end
 conflicts-last :

@@ -18,8 +18,7 @@ use Rattle.trade.proofs.Conflict.{conflict-symmetric}
 use Rattle.trade.proofs.Interference.{worst-past, worst-row}
 use Rattle.nodes.specs.Network.{Within}
 use Rattle.plans.specs.Plan.{AllWithin, stepsIn}
-use Rattle.pairs.specs.Line.{marksOf}
-use Rattle.pairs.specs.Columns.{Disturbers, fromEnd, receiving, sending, Columns, markedAt, matrixBy}
+use Rattle.pairs.specs.Columns.{marksOf, fromEnd, receiving, ending, sending, Columns, markedAt, matrixBy}
 
 -- the tests of a conflict, in the order of the columns
 reorder : (p q r s t u : Bool) → (false || false || p || q || r || s || t || u) ≡ (p || q || u || (r || s || t))
@@ -44,9 +43,9 @@ eqb-turned a b = ⊎-elim (λ (h : a < b). off (λ e. omega arith) (λ e. omega 
     on e = rw e refl
 
 -- a transmission conflicts with another if the other's columns of its sender or of its receiver say so
-module _ (rows disturbers : List ℕ) (d : Disturbers rows disturbers) where
-  conflict-parts : (t u : Transmission) → Within rows t → Within rows u → conflict (disturbsIn rows) t u ≡ (sending disturbers u (t .sender .0) || receiving rows u (t .receiver .0))
-  unfolding conflict meet sending receiving
+module _ (rows : List ℕ) where
+  conflict-parts : (t u : Transmission) → Within rows t → Within rows u → conflict (disturbsIn rows) t u ≡ (sending rows u (t .sender .0) || receiving rows u (t .receiver .0))
+  unfolding conflict meet sending ending receiving
   conflict-parts t u p q =
       let a : ℕ = t .sender .0 in
       let b : ℕ = t .receiver .0 in
@@ -59,12 +58,11 @@ module _ (rows disturbers : List ℕ) (d : Disturbers rows disturbers) where
         eqb-turned a w,
         eqb-turned b v,
         eqb-turned b w,
-        d .bits a w (q .receiver .numbered),
         lt-ltb a (min mostNodes (length rows / 8)) (omega (arith, p .sender .numbered, p .sender .row)),
       )
       (reorder (eqb v a) (eqb w a) (eqb v b) (eqb w b) (disturbsIn rows v b) (disturbsIn rows a w))
 
-  module _ (h columns : List ℕ) (short : length h ≤ stepBytes * mostSteps) (c : Columns rows disturbers h (stepsIn h) columns) (all : AllWithin rows h) where
+  module _ (h columns : List ℕ) (short : length h ≤ stepBytes * mostSteps) (c : Columns rows h (stepsIn h) columns) (all : AllWithin rows h) where
     pub marked-conflict : (t : Transmission) (b : ℕ) → Within rows t → b < stepsIn h → markedAt columns t b ≡ conflict (disturbsIn rows) t (fromEnd h b)
     unfolding markedAt
     marked-conflict t b p l =
@@ -128,25 +126,24 @@ rows-shifted marks other d rows columns same (suc k) (suc n) i j e f =
 
 -- THE FIGURE BY COLUMNS
 pub figure-by-columns :
-    (rows disturbers l h columns : List ℕ)
-    → Disturbers rows disturbers
+    (rows l h columns : List ℕ)
     → length l ≤ stepBytes * mostSteps
-    → Columns rows disturbers l (stepsIn l) columns
+    → Columns rows l (stepsIn l) columns
     → AllWithin rows l
     → AllWithin rows h
     → worstPath (matrixBy columns h) mostSteps (stepsIn h) ≡ worstPath (marksOf rows l h) (stepsIn l) (stepsIn h)
 unfolding worstPath
-figure-by-columns rows disturbers l h columns d short c all other =
+figure-by-columns rows l h columns short c all other =
     let n : ℕ = stepsIn l in
     let free : ℕ = mostSteps - n in
     let e : mostSteps ≡ free + n = omega arith in
     skip-rows (matrixBy columns h) mostSteps (stepsIn h) free (omega arith)
-    (λ i j p q. unmarked rows disturbers d l columns short c all (stepIn h j) (mostSteps - suc i) (other j (omega arith)) (omega arith) (omega arith))
+    (λ i j p q. unmarked rows l columns short c all (stepIn h j) (mostSteps - suc i) (other j (omega arith)) (omega arith) (omega arith))
     ∙ ap₂ (λ (r i : ℕ). worst (matrixBy columns h) r i 0 (stepsIn h)) e (omega arith)
     ∙ rows-shifted (matrixBy columns h) (marksOf rows l h) free n (stepsIn h)
     (λ i j p q.
     let back : n - suc (mostSteps - suc (free + i)) ≡ i = omega arith in
-    marked-conflict rows disturbers d l columns short c all (stepIn h j) (mostSteps - suc (free + i)) (other j (omega arith)) (omega arith)
+    marked-conflict rows l columns short c all (stepIn h j) (mostSteps - suc (free + i)) (other j (omega arith)) (omega arith)
     ∙ ap (λ (k : ℕ). conflict (disturbsIn rows) (stepIn h j) (stepIn l k)) back
     ∙ conflict-symmetric (disturbsIn rows) (stepIn h j) (stepIn l i))
     (stepsIn h) n 0 0 (omega arith) (omega arith)

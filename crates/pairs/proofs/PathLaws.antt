@@ -12,7 +12,7 @@ use Rattle.trade.specs.Interference.{worstPath, matrix, interference}
 use Rattle.trade.proofs.Interference.{paths-agree}
 use Rattle.plans.proofs.StepsLaws.{step-plan, steps-plan}
 use Rattle.plans.specs.Plan.{stepsIn, planIn}
-use Rattle.pairs.specs.Line.{marksOf}
+use Rattle.pairs.specs.Columns.{marksOf}
 
 -- the part of the steps section that holds plan i, and that the section is long enough for it
 abbrev pub planOf : Sections → ℕ → List ℕ

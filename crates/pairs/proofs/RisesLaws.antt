@@ -13,11 +13,24 @@ use Rattle.trade.specs.Limits.{mostSteps}
 use Rattle.trade.specs.Bytes.{bit}
 use Rattle.trade.specs.Interference.{Matrix, one, worst}
 use Rattle.trade.proofs.First.{lt-or-ge, bool-cases, not-both}
+use Rattle.trade.proofs.Sums.{largest-below}
 use Rattle.trade.proofs.Interference.{worst-past, worst-row}
 use Rattle.nodes.proofs.MaskLaws.{bit-none, bit-zero, bit-suc, last-cases, bit-or, bit-and, bit-xor, bit-below, bit-past}
-use Rattle.pairs.proofs.InterferenceLaws.{one-le, worst-at-most}
 use Rattle.pairs.specs.Rises.{riseAt, before, Says, over, Shifts}
 use Rattle.pairs.specs.declared.rises.Rises.{Rises}
+
+pub one-le : (marked : Bool) → one marked ≤ 1
+unfolding one
+one-le true = omega arith
+one-le false = omega arith
+
+-- no choice counts more than it has columns
+pub worst-at-most : (marks : Matrix) (rows i j k : ℕ) → worst marks rows i j k ≤ k
+unfolding worst
+worst-at-most marks rows i j zero = omega arith
+worst-at-most marks rows i j (suc k) =
+    largest-below (λ (c : ℕ). one (marks c j) + worst marks rows c (suc j) k) i (rows - i) (suc k)
+    (λ c l h. omega (arith, one-le (marks c j), worst-at-most marks rows c (suc j) k))
 
 -- one of two bits, and not both
 abbrev differ : Bool → Bool → Bool

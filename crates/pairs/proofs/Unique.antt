@@ -5,7 +5,7 @@ use mathlib.Core.Path.{_≡_, sym, _∙_, ap}
 use mathlib.Core.List.{List}
 use mathlib.Core.Logic.{⊎-elim}
 use native.Mathlib.Omega.{arith}
-use lib.ListN.{length, getD, List·getD-eq-default}
+use lib.ListN.{length, getD}
 use lib.Seq.{ext-getD}
 use denote.Ref.{now}
 use Rattle.trade.specs.Limits.{mostNodes, mostSteps}
@@ -13,47 +13,28 @@ use Rattle.trade.specs.Bytes.{bit}
 use Rattle.trade.proofs.First.{lt-or-ge}
 use Rattle.trade.proofs.Unique.{OneResult, one-result}
 use Rattle.nodes.proofs.MaskLaws.{same-bits}
-use Rattle.pairs.proofs.columns.disturbers.Kinds as disturbers-kinds
-use Rattle.pairs.proofs.columns.disturbers.Reads as disturbers
 use Rattle.pairs.proofs.columns.gather.Reads as gather
 use Rattle.pairs.proofs.rises.figure.Kinds as figure-kinds
 use Rattle.pairs.proofs.rises.figure.Reads as figure
-use Rattle.pairs.proofs.interference.interference.Kinds as interference-kinds
-use Rattle.pairs.proofs.interference.interference.Reads as interference
-
-pub interference-unique : OneResult 3 interference-kinds.ps interference-kinds.r interference.Post
-interference-unique κs a r r' s s' p q = one-result p q
 
 -- numbers that each say the same bits, as many, are the same
 same-words : (a b : List ℕ) → length a ≡ length b → ((x y : ℕ) → bit (getD a x 0) y ≡ bit (getD b x 0) y) → a ≡ b
 same-words a b size same = ext-getD 0 a b size (λ x h. same-bits (getD a x 0) (getD b x 0) (same x))
 
-pub disturbers-unique : OneResult 1 disturbers-kinds.ps disturbers-kinds.r disturbers.Post
-disturbers-unique κs a r r' s s' p q = same-words r r' size (λ x y. ⊎-elim (within x y) (λ (h : mostNodes ≤ x). past x y h) (lt-or-ge x mostNodes))
-  where
-    size : length r ≡ length r'
-    size = p .size ∙ sym (q .size)
-
-    within : (x y : ℕ) → x < mostNodes → bit (getD r x 0) y ≡ bit (getD r' x 0) y
-    within x y h = p .bits y x h ∙ sym (q .bits y x h)
-
-    past : (x y : ℕ) → mostNodes ≤ x → bit (getD r x 0) y ≡ bit (getD r' x 0) y
-    past x y h = ap (λ (n : ℕ). bit n y) (List·getD-eq-default r 0 (omega (arith, p .size)) ∙ sym (List·getD-eq-default r' 0 (omega (arith, q .size))))
-
-pub gather-unique : (κs : _) (a : _) (r r' : _) (s s' : _) → gather.Post κs a r s → gather.Post κs a r' s' → now (s .1 .1 .1 .0) ≡ now (s' .1 .1 .1 .0)
+pub gather-unique : (κs : _) (a : _) (r r' : _) (s s' : _) → gather.Post κs a r s → gather.Post κs a r' s' → now (s .1 .1 .0) ≡ now (s' .1 .1 .0)
 gather-unique κs a r r' s s' p q =
-    same-words (now (s .1 .1 .1 .0)) (now (s' .1 .1 .1 .0)) (p .size ∙ sym (q .size))
+    same-words (now (s .1 .1 .0)) (now (s' .1 .1 .0)) (p .size ∙ sym (q .size))
     (λ x y. ⊎-elim (λ (h : x < mostNodes). ⊎-elim (low x y h) (high x y h) (lt-or-ge y mostSteps)) (past x y) (lt-or-ge x mostNodes))
   where
-    low : (x y : ℕ) → x < mostNodes → y < mostSteps → bit (getD (now (s .1 .1 .1 .0)) x 0) y ≡ bit (getD (now (s' .1 .1 .1 .0)) x 0) y
+    low : (x y : ℕ) → x < mostNodes → y < mostSteps → bit (getD (now (s .1 .1 .0)) x 0) y ≡ bit (getD (now (s' .1 .1 .0)) x 0) y
     low x y h l = p .columns .received x y h l ∙ sym (q .columns .received x y h l)
 
-    high : (x y : ℕ) → x < mostNodes → mostSteps ≤ y → bit (getD (now (s .1 .1 .1 .0)) x 0) y ≡ bit (getD (now (s' .1 .1 .1 .0)) x 0) y
+    high : (x y : ℕ) → x < mostNodes → mostSteps ≤ y → bit (getD (now (s .1 .1 .0)) x 0) y ≡ bit (getD (now (s' .1 .1 .0)) x 0) y
     high x y h l =
         let e : y ≡ mostSteps + (y - mostSteps) = omega arith in
         rw e (p .columns .sent x (y - mostSteps) h ∙ sym (q .columns .sent x (y - mostSteps) h))
 
-    past : (x y : ℕ) → mostNodes ≤ x → bit (getD (now (s .1 .1 .1 .0)) x 0) y ≡ bit (getD (now (s' .1 .1 .1 .0)) x 0) y
+    past : (x y : ℕ) → mostNodes ≤ x → bit (getD (now (s .1 .1 .0)) x 0) y ≡ bit (getD (now (s' .1 .1 .0)) x 0) y
     past x y h = ap (λ (n : ℕ). bit n y) (p .others x h ∙ sym (q .others x h))
 
 pub figure-unique : OneResult 2 figure-kinds.ps figure-kinds.r figure.Post

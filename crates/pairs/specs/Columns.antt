@@ -1,5 +1,5 @@
 -- The columns of a plan: for each node, the steps of the plan that conflict with what it sends or receives. The steps are counted from the
--- plan's last. Leans on Line and Network.
+-- plan's last. Leans on the trade's Conflict.
 use Prim.Native.Nat.{ℕ, suc, _+_, _-_, _/_, _≤_, _<_, min}
 use mathlib.Core.Path.{_≡_}
 use mathlib.Core.Bool.{Bool, cond, _&&_, _||_}
@@ -8,11 +8,17 @@ use lib.Dec.{eqb, ltb}
 use lib.Bits.{bitOr}
 use lib.ListN.{length, getD}
 use Rattle.trade.specs.Limits.{mostNodes, mostSteps, rowBytes}
+use Rattle.trade.specs.First.{some}
 use Rattle.trade.specs.Bytes.{bit}
 use Rattle.trade.specs.Facts.{disturbsIn, stepIn}
+use Rattle.trade.specs.Conflict.{conflict}
 use Rattle.trade.specs.Interference.{Matrix}
 use Rattle.trade.specs.declared.node.Transmission.{Transmission}
 use Rattle.plans.specs.Plan.{stepsIn}
+
+-- the conflict matrix of two plans
+abbrev pub marksOf : List ℕ → List ℕ → List ℕ → Matrix
+marksOf rows l h i j = conflict (disturbsIn rows) (stepIn l i) (stepIn h j)
 
 -- a mark set at every node of a set
 pub record Spread (nodes mark : ℕ) (before after : List ℕ) : Type 0 where
@@ -24,11 +30,6 @@ pub record Spread (nodes mark : ℕ) (before after : List ℕ) : Type 0 where
 abbrev pub nodesIn : List ℕ → ℕ
 nodesIn rows = min mostNodes (length rows / rowBytes)
 
--- for each node, those that disturb it
-pub record Disturbers (rows disturbers : List ℕ) : Type 0 where
-  pub size : length disturbers ≡ mostNodes
-  pub bits : (x y : ℕ) → y < mostNodes → bit (getD disturbers y 0) x ≡ (ltb x (nodesIn rows) && disturbsIn rows x y)
-
 -- step b from the end of a plan
 abbrev pub fromEnd : List ℕ → ℕ → Transmission
 fromEnd plan b = stepIn plan (stepsIn plan - suc b)
@@ -37,15 +38,22 @@ fromEnd plan b = stepIn plan (stepsIn plan - suc b)
 unfoldable pub receiving : List ℕ → Transmission → ℕ → Bool
 receiving rows u x = eqb (u .sender .0) x || eqb (u .receiver .0) x || disturbsIn rows (u .sender .0) x
 
--- what node x sends conflicts with it if x is one of its nodes, or x disturbs its receiver
-unfoldable pub sending : List ℕ → Transmission → ℕ → Bool
-sending disturbers u x = eqb (u .sender .0) x || eqb (u .receiver .0) x || bit (getD disturbers (u .receiver .0) 0) x
+-- x is one of its nodes
+unfoldable pub ending : Transmission → ℕ → Bool
+ending u x = eqb (u .sender .0) x || eqb (u .receiver .0) x
 
--- the columns of the last k steps of a plan, a number for each node: its lower bits are the steps that conflict with what the node receives,
--- the others those that conflict with what it sends
-pub record Columns (rows disturbers plan : List ℕ) (k : ℕ) (columns : List ℕ) : Type 0 where
-  pub received : (x b : ℕ) → x < mostNodes → b < mostSteps → bit (getD columns x 0) b ≡ (ltb b k && receiving rows (fromEnd plan b) x)
-  pub sent : (x b : ℕ) → x < mostNodes → bit (getD columns x 0) (mostSteps + b) ≡ (ltb b k && sending disturbers (fromEnd plan b) x)
+-- what node x sends conflicts with it if x is one of its nodes, or x has a row and disturbs its receiver
+unfoldable pub sending : List ℕ → Transmission → ℕ → Bool
+sending rows u x = ending u x || (ltb x (nodesIn rows) && disturbsIn rows x (u .receiver .0))
+
+-- the columns of a plan, a number for each node: its lower bits are the steps that conflict with what the node receives, the others those
+-- that conflict with what it sends; each by its test, of the last k steps
+pub record ColumnsBy (receives sends : Transmission → ℕ → Bool) (plan : List ℕ) (k : ℕ) (columns : List ℕ) : Type 0 where
+  pub received : (x b : ℕ) → x < mostNodes → b < mostSteps → bit (getD columns x 0) b ≡ (ltb b k && receives (fromEnd plan b) x)
+  pub sent : (x b : ℕ) → x < mostNodes → bit (getD columns x 0) (mostSteps + b) ≡ (ltb b k && sends (fromEnd plan b) x)
+
+abbrev pub Columns : List ℕ → List ℕ → ℕ → List ℕ → Type 0
+Columns rows = ColumnsBy (receiving rows) (sending rows)
 
 -- a transmission conflicts, by the columns, with step b from the end
 unfoldable pub markedAt : List ℕ → Transmission → ℕ → Bool
@@ -55,18 +63,35 @@ markedAt columns t b = bit (getD columns (t .sender .0) 0) (mostSteps + b) || bi
 abbrev pub matrixBy : List ℕ → List ℕ → Matrix
 matrixBy columns h i j = markedAt columns (stepIn h j) (mostSteps - suc i)
 
--- one step noted in the columns, the b-th from the end
-pub record Noted (rows disturbers : List ℕ) (u : Transmission) (b : ℕ) (before after : List ℕ) : Type 0 where
+-- one step noted in the columns, the b-th from the end, but for those that disturb its receiver
+pub record Noted (rows : List ℕ) (u : Transmission) (b : ℕ) (before after : List ℕ) : Type 0 where
   pub size : length after ≡ length before
   pub bits :
       (x y : ℕ)
       → x < mostNodes
       → bit (getD after x 0) y
-      ≡ (bit (getD before x 0) y || (eqb b y && receiving rows u x) || (eqb (mostSteps + b) y && sending disturbers u x))
+      ≡ (bit (getD before x 0) y || (eqb b y && receiving rows u x) || (eqb (mostSteps + b) y && ending u x))
+  pub others : (x : ℕ) → mostNodes ≤ x → getD after x 0 ≡ getD before x 0
+
+-- and with its receiver
+pub record Listed (u : Transmission) (b : ℕ) (before after : List ℕ) : Type 0 where
+  pub size : length after ≡ length before
+  pub bits : (y k : ℕ) → bit (getD after y 0) k ≡ (bit (getD before y 0) k || (eqb b k && eqb (u .receiver .0) y))
+
+-- of each node that has a row, the steps that the nodes of a set which it disturbs receive, put into the upper half
+pub record Sent (rows received : List ℕ) (receivers : ℕ) (before after : List ℕ) : Type 0 where
+  pub size : length after ≡ length before
+  pub lower : (x b : ℕ) → b < mostSteps → bit (getD after x 0) b ≡ bit (getD before x 0) b
+  pub upper :
+      (x b : ℕ)
+      → x < mostNodes
+      → bit (getD after x 0) (mostSteps + b)
+      ≡ (bit (getD before x 0) (mostSteps + b)
+      || (ltb x (nodesIn rows) && some (λ y. (disturbsIn rows x y && bit receivers y) && bit (getD received y 0) b) mostNodes))
   pub others : (x : ℕ) → mostNodes ≤ x → getD after x 0 ≡ getD before x 0
 
 -- the columns of a whole plan. What lies beyond them stays
-pub record Gathered (rows disturbers plan before after : List ℕ) : Type 0 where
+pub record Gathered (rows plan before after : List ℕ) : Type 0 where
   pub size : length after ≡ length before
-  pub columns : Columns rows disturbers plan (stepsIn plan) after
+  pub columns : Columns rows plan (stepsIn plan) after
   pub others : (x : ℕ) → mostNodes ≤ x → getD after x 0 ≡ getD before x 0

@@ -1,4 +1,3 @@
 -- Definitions that the contracts of this crate cite beside those of the trade.
-pub mod Line
 pub mod Columns
 pub mod Rises

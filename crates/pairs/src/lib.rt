@@ -1,4 +1,3 @@
-// The interference of one plan on another, worked out on a line of figures: pair by pair, or through columns of bits.
+// The interference of one plan on another: the columns of the one, and the line of figures that the steps of the other are worked into.
 pub mod columns;
-pub mod interference;
 pub mod rises;

@@ -1,12 +1,10 @@
--- What is computed of interference is the largest count that any choice reaches, and nothing else is. It is also what one line of figures
--- gives, worked over once for each step of h. Leans on Sums. Assumes nothing.
+-- What is computed of interference is the largest count that any choice reaches, and nothing else is. Leans on Sums. Assumes nothing.
 use Prim.Native.Nat.{ℕ, zero, suc, _+_, _-_, _≤_, _<_, max}
 use mathlib.Core.Path.{_≡_, refl, sym, _∙_, ap, ap₂}
 use mathlib.Core.Bool.{Bool}
 use mathlib.Core.List.{List, [], _∷_}
 use native.Mathlib.Omega.{arith}
 use native.Mathlib.Nat.{le-trans, add-le-add, add-suc, zero-add}
-use lib.ListN.{getD, replicate}
 use Rattle.trade.specs.First.{largestFrom}
 use Rattle.trade.specs.Facts.{Facts}
 use Rattle.trade.specs.Interference.{Matrix, one, Choice, chosen, choose, countOf, Largest, matrix, IsInterference, worst, worstPath, interference}
@@ -65,59 +63,6 @@ pub worst-row :
     → worst marks rows i j (suc k) ≡ max (one (marks i j) + worst marks rows i (suc j) k) (worst marks rows (suc i) j (suc k))
 unfolding worst largestFrom
 worst-row marks rows i j k h = let e : rows - i ≡ suc (rows - suc i) = omega arith in rw e
-
--- one line of figures, one for each step of l from i on, worked over from its end for one step of h
-pub update : (ℕ → Bool) → ℕ → List ℕ → List ℕ
-update column i [] = []
-update column i (x ∷ xs) =
-    let below : List ℕ = update column (suc i) xs in
-    max (one (column i) + x) (getD below 0 0) ∷ below
-
--- the line after the k steps of h from j on, the last of them first
-pub line : Matrix → ℕ → ℕ → ℕ → List ℕ
-line marks rows j zero = replicate rows 0
-line marks rows j (suc k) = update (λ i. marks i j) 0 (line marks rows (suc j) k)
-
--- the line's figures are the worst counts from each step of l on
-pub worsts : Matrix → ℕ → ℕ → ℕ → ℕ → ℕ → List ℕ
-worsts marks rows i j k zero = []
-worsts marks rows i j k (suc n) = worst marks rows i j k ∷ worsts marks rows (suc i) j k n
-
-worsts-head : (marks : Matrix) (rows i j k n : ℕ) → i + n ≡ rows → getD (worsts marks rows i j k n) 0 0 ≡ worst marks rows i j k
-unfolding worsts
-worsts-head marks rows i j k zero e = sym (worst-past marks rows i j k (omega arith))
-worsts-head marks rows i j k (suc n) e = refl
-
-worsts-none : (marks : Matrix) (rows i j n : ℕ) → worsts marks rows i j 0 n ≡ replicate n 0
-unfolding worsts worst
-worsts-none marks rows i j zero = refl
-worsts-none marks rows i j (suc n) = ap (λ (xs : List ℕ). 0 ∷ xs) (worsts-none marks rows (suc i) j n)
-
-update-worsts :
-    (marks : Matrix) (rows i j k n : ℕ)
-    → i + n ≡ rows
-    → update (λ c. marks c j) i (worsts marks rows i (suc j) k n) ≡ worsts marks rows i j (suc k) n
-unfolding update worsts
-update-worsts marks rows i j k zero e = refl
-update-worsts marks rows i j k (suc n) e =
-    let rest = update-worsts marks rows (suc i) j k n (omega arith) in
-    rw rest
-    (ap (λ (w : ℕ). w ∷ worsts marks rows (suc i) j (suc k) n)
-    (ap (λ (w : ℕ). max (one (marks i j) + worst marks rows i (suc j) k) w) (worsts-head marks rows (suc i) j (suc k) n (omega arith))
-    ∙ sym (worst-row marks rows i j k (omega arith))))
-
-line-worsts : (marks : Matrix) (rows j k : ℕ) → line marks rows j k ≡ worsts marks rows 0 j k rows
-unfolding line
-line-worsts marks rows j zero = sym (worsts-none marks rows 0 j rows)
-line-worsts marks rows j (suc k) = rw (line-worsts marks rows (suc j) k) (update-worsts marks rows 0 j k rows (omega arith))
-
--- I(l,h) is what the one line gives
-pub interference-by-line : (f : Facts) (l h : ℕ) → interference f l h ≡ getD (line (matrix f l h) (f .len l) 0 (f .len h)) 0 0
-unfolding interference worstPath
-interference-by-line f l h =
-    sym
-    (ap (λ (xs : List ℕ). getD xs 0 0) (line-worsts (matrix f l h) (f .len l) 0 (f .len h))
-    ∙ worsts-head (matrix f l h) (f .len l) 0 0 (f .len h) (f .len l) (omega arith))
 
 -- matrices that agree at every step of l and of h, the columns of one standing so many places further, have the same worst path
 pub worst-shifted :

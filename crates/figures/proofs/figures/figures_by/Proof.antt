@@ -14,7 +14,7 @@ use Rattle.trade.specs.Interference.{worstPath}
 use Rattle.trade.proofs.Sums.{sum-next}
 use Rattle.plans.specs.Plan.{stepsIn, planIn}
 use Rattle.pairs.specs.Columns.{matrixBy}
-use Rattle.pairs.proofs.InterferenceLaws.{worst-at-most}
+use Rattle.pairs.proofs.RisesLaws.{worst-at-most}
 use Rattle.sections.specs.Formed.{planStart, planAt}
 use Rattle.figures.specs.Figures.{figureBy}
 use Rattle.figures.proofs.Padded.{filled, filled-none, filled-more}

@@ -13,9 +13,9 @@ use slot_host::stack::taken;
 use std::hint::black_box;
 use std::time::{Duration, Instant};
 
-const ROUNDS: u64 = 9;
-/// How long one planner is timed in one round.
-const MILLIS: u64 = 12;
+const ROUNDS: u64 = 101;
+/// How long one planner is timed in one round: so short that whatever else the machine does falls on both alike.
+const MILLIS: u64 = 1;
 /// How many slots are run before the run starts again.
 const LAP: usize = 2_048;
 
@@ -148,7 +148,8 @@ impl Row {
         }
     }
 
-    /// Calls per second of both, and the ratio of each round's two rates: medians over the rounds, taken in turn.
+    /// Calls per second of both, timed in turn, and the ratio of the two in the same round. Each is the median of the
+    /// rounds, so the ratio is not the quotient of the other two.
     fn measure(&self, keen: &dyn Planner, other: &dyn Planner, rounds: usize, time: Duration) -> (f64, f64, f64) {
         let (keen_calls, other_calls) = (self.calls_in(keen, time), self.calls_in(other, time));
         let mut rates = Vec::new();

@@ -26,7 +26,7 @@ use Rattle.trade.proofs.Calls.{written}
 use Rattle.trade.proofs.RoundTrip.{write-then-read, write-then-check}
 use Rattle.promise.specs.Demands.{Program, planner, Done}
 use Rattle.promise.specs.Promise.{Meets}
-use Rattle.promise.specs.Tables.{bookIn, OneBook}
+use Rattle.promise.specs.Tables.{bookIn, OneBook, AddedRuns}
 use Rattle.promise.proofs.Admits.{old-passed, others-passed, new-passed}
 use Rattle.promise.proofs.Promise.{planner-keeps-demand-3, by-planner}
 
@@ -110,17 +110,7 @@ module _ (a : Adding) (e : Done (addAnswer a)) where
         }
 
 -- ONE TABLE, ONE BOOK: from add's answer 0, through write, to the run
-pub one-table-one-book :
-    (p : Program)
-    → Meets p
-    → (a : Adding) (changed : Changed)
-    → p .add a changed
-    → Done (changed .answer)
-    → (buffer : List ℕ)
-    → length (bookOf (changed .table)) ≤ length buffer
-    → (w : Written)
-    → p .write (record { table = changed .table; buffer = buffer }) w
-    → OneBook p (changed .table) w
+pub one-table-one-book : (p : Program) → Meets p → AddedRuns p
 unfolding addOf
 one-table-one-book p m a changed c e buffer room w d =
     let adds : changed ≡ addOf a = m .adds a changed c in

@@ -7,7 +7,8 @@ use Rattle.trade.specs.Bytes.{over}
 use Rattle.trade.specs.Layout.{Sections}
 use Rattle.trade.specs.Facts.{factsOf}
 use Rattle.trade.specs.Answers.{done}
-use Rattle.trade.specs.Calls.{Got, Checked, Written, boundsOf}
+use Rattle.trade.specs.Table.{bookOf}
+use Rattle.trade.specs.Calls.{Got, Checked, Adding, Changed, Written, boundsOf}
 use Rattle.promise.specs.Demands.{Program, Done, Ran, RunBy, Honoured}
 
 -- the book that a buffer then holds: as many bytes as the answer says
@@ -36,3 +37,15 @@ pub record OneBook (p : Program) (table : Sections) (w : Written) : Type 0 where
       → more ≡ record { answer = done (length (bookIn w)); buffer = over (bookIn w) other }
   -- RUN, it keeps what is owed of an accepted table, within the bounds of the table
   pub runs : (x : Ran) → x .book ≡ bookIn w → RunBy p x → Honoured x (λ l. getD (boundsOf (factsOf table)) l 0)
+
+-- FROM ADD, through write, to the run: where add is done, the table that it gave, written into any buffer with room, is one book
+abbrev pub AddedRuns : Program → Type 0
+AddedRuns p =
+    (a : Adding) (changed : Changed)
+    → p .add a changed
+    → Done (changed .answer)
+    → (buffer : List ℕ)
+    → length (bookOf (changed .table)) ≤ length buffer
+    → (w : Written)
+    → p .write (record { table = changed .table; buffer = buffer }) w
+    → OneBook p (changed .table) w

@@ -1,16 +1,11 @@
 -- THE DEMANDS, of the functions that ship: from Rattle, and from C. Assumes nothing.
-use Prim.Native.Nat.{ℕ, _≤_}
-use mathlib.Core.List.{List}
-use lib.ListN.{length}
-use Rattle.trade.specs.Table.{bookOf}
-use Rattle.trade.specs.Calls.{Adding, Changed, Written}
-use Rattle.promise.specs.Demands.{Done, Demand1, Demand2, Demand3}
-use Rattle.promise.specs.Tables.{OneBook}
+use Rattle.promise.specs.Demands.{Demand1, Demand2, Demand3}
+use Rattle.promise.specs.Tables.{AddedRuns}
 use Rattle.promise.proofs.Refusals.{keeps-demand-1}
 use Rattle.promise.proofs.Exact.{keeps-demand-2}
 use Rattle.promise.proofs.Promise.{keeps-demand-3}
 use Rattle.promise.proofs.Tables.{one-table-one-book}
-use Rattle.shipped.specs.Calls.{Write, Add, shipped, forC}
+use Rattle.shipped.specs.Calls.{shipped, forC}
 use Rattle.shipped.proofs.Meets.{shipped-meets, for-c-meets}
 
 pub shipped-demand-1 : Demand1 shipped
@@ -31,26 +26,9 @@ for-c-demand-2 = keeps-demand-2 forC for-c-meets
 pub for-c-demand-3 : Demand3 forC
 for-c-demand-3 = keeps-demand-3 forC for-c-meets
 
--- FROM ADD, through write, to the run: by the calls of Rattle,
-pub added-table-runs :
-    (a : Adding) (changed : Changed)
-    → Add a changed
-    → Done (changed .answer)
-    → (buffer : List ℕ)
-    → length (bookOf (changed .table)) ≤ length buffer
-    → (w : Written)
-    → Write (record { table = changed .table; buffer = buffer }) w
-    → OneBook shipped (changed .table) w
+-- FROM ADD, through write, to the run: by the calls of Rattle, and the written book run from C
+pub added-table-runs : AddedRuns shipped
 added-table-runs = one-table-one-book shipped shipped-meets
 
--- and the written book run from C
-pub added-table-runs-in-c :
-    (a : Adding) (changed : Changed)
-    → Add a changed
-    → Done (changed .answer)
-    → (buffer : List ℕ)
-    → length (bookOf (changed .table)) ≤ length buffer
-    → (w : Written)
-    → Write (record { table = changed .table; buffer = buffer }) w
-    → OneBook forC (changed .table) w
+pub added-table-runs-in-c : AddedRuns forC
 added-table-runs-in-c = one-table-one-book forC for-c-meets

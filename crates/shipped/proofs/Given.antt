@@ -6,10 +6,10 @@ use base.Fml.{Lft}
 use denote.Ref.{RefT}
 use Rattle.trade.specs.Layout.{Sections}
 use Rattle.trade.specs.Answers.{packedOf}
-use Rattle.trade.specs.Calls.{Writing, Adding, Removing, Starting, Advancing, readOf, checkOf, writeOf, addOf, removeOf, startOf, advanceOf}
+use Rattle.trade.specs.Calls.{Checked, Started, Advanced, Writing, Adding, Removing, Starting, Advancing, readOf, checkOf, writeOf, addOf, removeOf, startOf, advanceOf}
 use Rattle.table.specs.declared.table.Table.{Table}
 use Rattle.promise.specs.Demands.{Answers}
-use Rattle.shipped.specs.Calls.{Read, Check, Write, Add, Remove, Start, Advance, SlotCheck, shipped, forC}
+use Rattle.shipped.specs.Calls.{Read, Check, Write, Add, Remove, Start, Advance, SlotCheck, shipped, forC, withRun}
 
 -- a list that is lent, and a table of counts and sections
 lent : List ℕ → RefT (List ℕ)
@@ -59,31 +59,31 @@ module _ (κ : Lft) where
   unfolding lent
   slot-check-given b = ((κ, tt), (lent b, tt), (lent b, tt), record { answer = refl }, refl)
 
-  pub shipped-answers : Answers shipped
-  shipped-answers =
+  answers-with :
+      {check : List ℕ → Checked → Type 0} {start : Starting → Started → Type 0} {advance : Advancing → Advanced → Type 0}
+      → ((b : List ℕ) → (given : Checked) × check b given)
+      → ((s : Starting) → (given : Started) × start s given)
+      → ((a : Advancing) → (given : Advanced) × advance a given)
+      → Answers (withRun check start advance)
+  answers-with checks starts advances =
       record {
         read = λ b. (readOf b, read-given b);
-        check = λ b. (checkOf b, check-given b);
+        check = checks;
         write = λ w. (writeOf w, write-given w);
         add = λ a. (addOf a, add-given a);
         remove = λ r. (removeOf r, remove-given r);
-        start = λ s. (startOf s, start-given s);
-        advance = λ a. (advanceOf a, advance-given a);
+        start = starts;
+        advance = advances;
       }
+
+  pub shipped-answers : Answers shipped
+  shipped-answers = answers-with (λ b. (checkOf b, check-given b)) (λ s. (startOf s, start-given s)) (λ a. (advanceOf a, advance-given a))
 
   pub for-c-answers : Answers forC
   unfolding lent
   for-c-answers =
-      record {
-        read = λ b. (readOf b, read-given b);
-        check = λ b. (_, (packedOf (checkOf b .answer), slot-check-given b, refl));
-        write = λ w. (writeOf w, write-given w);
-        add = λ a. (addOf a, add-given a);
-        remove = λ r. (removeOf r, remove-given r);
-        start =
-            λ i.
-            (_, ((κ, (κ, tt)), (lent (i .book), (lent (i .area), tt)), packedOf (startOf i .answer), (lent (i .book), (lent (startOf i .area), tt)), record { answer = refl; area = refl }, refl, refl));
-        advance =
-            λ i.
-            (_, ((κ, (κ, (κ, tt))), (lent (i .book), (lent (i .area), (lent (i .grants), tt))), packedOf (advanceOf i .answer), (lent (i .book), (lent (advanceOf i .area), (lent (advanceOf i .grants), tt))), record { answer = refl; area = refl; grants = refl }, refl, refl));
-      }
+      answers-with (λ b. (_, (packedOf (checkOf b .answer), slot-check-given b, refl)))
+      (λ i.
+      (_, ((κ, (κ, tt)), (lent (i .book), (lent (i .area), tt)), packedOf (startOf i .answer), (lent (i .book), (lent (startOf i .area), tt)), record { answer = refl; area = refl }, refl, refl)))
+      (λ i.
+      (_, ((κ, (κ, (κ, tt))), (lent (i .book), (lent (i .area), (lent (i .grants), tt))), packedOf (advanceOf i .answer), (lent (i .book), (lent (advanceOf i .area), (lent (advanceOf i .grants), tt))), record { answer = refl; area = refl; grants = refl }, refl, refl)))

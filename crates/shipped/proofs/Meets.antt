@@ -7,12 +7,12 @@ use Rattle.trade.specs.Limits.{packing}
 use Rattle.trade.specs.Answers.{packedOf}
 use Rattle.trade.specs.Bound.{measure}
 use Rattle.trade.specs.Slot.{greedy, releasesOf}
-use Rattle.trade.specs.Calls.{readOf, checkOf, checkBy, writeOf, addOf, removeOf, startOf, startBy, advanceOf, advanceBy}
+use Rattle.trade.specs.Calls.{Checked, Starting, Started, Advancing, Advanced, readOf, checkOf, checkBy, writeOf, addOf, removeOf, startOf, startBy, advanceOf, advanceBy}
 use Rattle.trade.specs.declared.answer.Answer.{Answer}
 use Rattle.trade.proofs.Numbers.{check-number, start-number, advance-number}
 use Rattle.promise.specs.Demands.{Always, planner}
 use Rattle.promise.specs.Promise.{Meets}
-use Rattle.shipped.specs.Calls.{Read, Check, Write, Add, Remove, Start, Advance, shipped, unpacked, SlotStart, SlotAdvance, forC}
+use Rattle.shipped.specs.Calls.{Read, Check, Write, Add, Remove, Start, Advance, shipped, unpacked, SlotStart, SlotAdvance, forC, withRun, CheckedInC}
 
 -- THE SEVEN CALLS
 pub read-planned : Always Read (planner .read)
@@ -37,18 +37,27 @@ pub advance-planned : Always Advance (planner .advance)
 advance-planned w given (κs, a, r, s, p, i, o) =
     o ∙ (λ t. record { answer = p .answer t; area = p .area t; grants = p .grants t }) ∙ ap advanceOf (sym i)
 
--- THE PROGRAM THAT SHIPS meets its contracts
-pub shipped-meets : Meets shipped
-shipped-meets =
+-- the calls on tables meet their contracts, so those with a check, a start and an advance that do
+meets-with :
+    {check : List ℕ → Checked → Type 0} {start : Starting → Started → Type 0} {advance : Advancing → Advanced → Type 0}
+    → Always check (planner .check)
+    → Always start (planner .start)
+    → Always advance (planner .advance)
+    → Meets (withRun check start advance)
+meets-with checks starts advances =
     record {
       reads = read-planned;
-      checks = check-planned;
+      checks = checks;
       writes = write-planned;
       adds = add-planned;
       removes = remove-planned;
-      starts = start-planned;
-      advances = advance-planned;
+      starts = starts;
+      advances = advances;
     }
+
+-- THE PROGRAM THAT SHIPS meets its contracts
+pub shipped-meets : Meets shipped
+shipped-meets = meets-with check-planned start-planned advance-planned
 
 -- an answer whose number fits is unpacked as it was packed
 unpacked-packed : (n : ℕ) (a : Answer) → a .number < packing → n ≡ packedOf a → unpacked n ≡ a
@@ -58,7 +67,7 @@ unpacked-packed n a h e =
     λ t. record { code = code t; number = number t }
 
 -- THE THREE CALLS FOR C
-pub slot-check-planned : Always (forC .check) (planner .check)
+pub slot-check-planned : Always CheckedInC (planner .check)
 unfolding checkBy
 slot-check-planned b given (n, (κs, a, s, p, i), o) =
     let answer : unpacked n ≡ checkOf b .answer
@@ -78,13 +87,4 @@ slot-advance-planned w given (κs, a, n, s, p, i, o) =
     o ∙ (λ t. record { answer = answer t; area = p .area t; grants = p .grants t }) ∙ ap advanceOf (sym i)
 
 pub for-c-meets : Meets forC
-for-c-meets =
-    record {
-      reads = read-planned;
-      checks = slot-check-planned;
-      writes = write-planned;
-      adds = add-planned;
-      removes = remove-planned;
-      starts = slot-start-planned;
-      advances = slot-advance-planned;
-    }
+for-c-meets = meets-with slot-check-planned slot-start-planned slot-advance-planned

@@ -71,9 +71,13 @@ Advance i given =
     × (i ≡ record { book = now (a .0); area = now (a .1 .0); grants = now (a .1 .1 .0) })
     × (given ≡ record { answer = r; area = now (s .1 .0); grants = now (s .1 .1 .0) })
 
+-- the calls on tables, with a check, a start and an advance
+abbrev pub withRun : (List ℕ → Checked → Type 0) → (Starting → Started → Type 0) → (Advancing → Advanced → Type 0) → Program
+withRun check start advance = record { read = Read; check = check; write = Write; add = Add; remove = Remove; start = start; advance = advance }
+
 -- THE PROGRAM that ships
 abbrev pub shipped : Program
-shipped = record { read = Read; check = Check; write = Write; add = Add; remove = Remove; start = Start; advance = Advance }
+shipped = withRun Check Start Advance
 
 -- THE THREE CALLS FOR C answer one number: code × 65,536 + the number that goes with it
 abbrev pub unpacked : ℕ → Answer
@@ -98,14 +102,8 @@ SlotAdvance i given =
 
 -- the program as C calls it: `slot_check` answers without bounds, and those that a run from C is held to are the ones of the definitions;
 -- tables are read, written and changed by the calls above
+abbrev pub CheckedInC : List ℕ → Checked → Type 0
+CheckedInC b given = (n : ℕ) × SlotCheck b n × (given ≡ record { answer = unpacked n; bounds = checkOf b .bounds })
+
 abbrev pub forC : Program
-forC =
-    record {
-      read = Read;
-      check = λ b given. (n : ℕ) × SlotCheck b n × (given ≡ record { answer = unpacked n; bounds = checkOf b .bounds });
-      write = Write;
-      add = Add;
-      remove = Remove;
-      start = SlotStart;
-      advance = SlotAdvance;
-    }
+forC = withRun CheckedInC SlotStart SlotAdvance

@@ -8,9 +8,9 @@ use Rattle.trade.specs.Interference.{worstPath}
 use Rattle.plans.specs.Plan.{stepsIn}
 use Rattle.pairs.specs.Columns.{matrixBy}
 
--- the figure of a plan, by the columns of the one below it
-abbrev pub figureBy : List ℕ → List ℕ → ℕ
-figureBy columns plan = worstPath (matrixBy columns plan) mostSteps (stepsIn plan)
+-- the figure of a plan, by the columns of the one below it, which has n steps
+abbrev pub figureBy : List ℕ → ℕ → List ℕ → ℕ
+figureBy columns n plan = worstPath (matrixBy columns n plan) n (stepsIn plan)
 
 -- a plan that columns may be asked about
 pub record Asked (plan : List ℕ) : Type 0 where

@@ -2,20 +2,25 @@
 ghost use mathlib.Core.Path.{_≡_};
 ghost use Prim.Native.Nat.{ℕ, _+_, _*_, _≤_, _<_};
 ghost use lib.ListN.{length};
-ghost use Rattle.trade.specs.Limits.{recordBytes, mostFlows, mostNodes};
+ghost use Rattle.trade.specs.Limits.{recordBytes, mostFlows, mostNodes, mostSteps};
 ghost use Rattle.trade.specs.First.{listTo};
 ghost use Rattle.trade.specs.Bytes.{padded};
 ghost use Rattle.trade.specs.Facts.{factsIn};
 ghost use Rattle.trade.specs.Interference.{interference};
+ghost use Rattle.pairs.specs.Columns.{Narrow};
 ghost use Rattle.sections.specs.Formed.{Formed, planAt};
 ghost use Rattle.figures.specs.Figures.{figureBy, Asked};
+use crate::lanes::lay_group;
+use crate::lanes::read_out;
+use crate::rises::worked_out;
 use pairs::columns::gather;
-use pairs::rises::figure;
+use plans::single::single;
 use plans::steps::plan_part;
 use sections::records::len_at;
 use sections::records::steps_before;
 use trade::Flow;
 use trade::Node;
+use trade::Plan;
 
 // The plan of a flow.
 fn plan_at<'a>(records: &[u8], steps: &'a [u8], l: usize) -> &'a [u8]
@@ -25,25 +30,34 @@ fn plan_at<'a>(records: &[u8], steps: &'a [u8], l: usize) -> &'a [u8]
     plan_part(steps, steps_before(records, l), len_at(records, l))
 }
 
-// The interference of each flow above l on it, zeros elsewhere, by the columns of the plan of l.
-fn figures_by(columns: &[u64], records: &[u8], steps: &[u8], l: usize) -> [u32; Flow::MOST]
-    requires { ⌜ (l < mostFlows) × (recordBytes * l ≤ length (now records)) × (mostNodes ≤ length (now columns)) ⌝ }
+// The interference of each flow above l on it, zeros elsewhere, by the columns of the plan of l, which has so many steps. As many flows as
+// have room are worked out side by side.
+fn figures_by(
+    columns: &[u64],
+    width: usize,
+    records: &[u8],
+    steps: &[u8],
+    l: usize,
+) -> [u32; Flow::MOST]
+    requires { ⌜ (l < mostFlows) × (recordBytes * l ≤ length (now records)) × (mostNodes ≤ length (now columns)) × (width ≤ mostSteps) × Narrow width (now columns) ⌝ }
     requires { ⌜ ((h : ℕ) → h < l → Asked (planAt (now records) (now steps) h)) ⌝ }
-    ensures { λ r. ⌜ r ≡ padded mostFlows (listTo (λ h. figureBy (now (columns .entry)) (planAt (now (records .entry)) (now (steps .entry)) h)) l) ⌝ }
+    ensures { λ r. ⌜ r ≡ padded mostFlows (listTo (λ h. figureBy (now (columns .entry)) width (planAt (now (records .entry)) (now (steps .entry)) h)) l) ⌝ }
 {
     let mut figures = [0u32; Flow::MOST];
     let mut start = 0;
     let mut h = 0;
     while h < l {
-        let len = len_at(records, h);
-        figures[h] = figure(columns, plan_part(steps, start, len)) as u32;
-        start += len;
-        h += 1;
+        let mut words = [0u64; Plan::MOST];
+        let laid = lay_group(columns, width, records, steps, h, start, l, &mut words);
+        let line = worked_out(&words, laid.longest, laid.ends);
+        read_out(line, width, h, laid.next, &mut figures);
+        start = laid.start;
+        h = laid.next;
     }
     figures
 }
 
-// The same, the columns gathered. The first flow has none above it.
+// The same, the columns gathered, of the plan with its repeated steps once. The first flow has none above it.
 pub fn figures_at(rows: &[u8], records: &[u8], steps: &[u8], l: usize) -> [u32; Flow::MOST]
     requires { ⌜ Formed (l + 1) (now rows) (now records) (now steps) ⌝ }
     ensures { λ r. ⌜ r ≡ padded mostFlows (listTo (interference (factsIn 0 0 (now (rows .entry)) (now (records .entry)) (now (steps .entry))) l) l) ⌝ }
@@ -52,7 +66,8 @@ pub fn figures_at(rows: &[u8], records: &[u8], steps: &[u8], l: usize) -> [u32; 
         return [0; Flow::MOST];
     }
     let mut columns = [0u64; Node::MOST];
-    let own = plan_at(records, steps, l);
-    gather(rows, own, &mut columns);
-    figures_by(&columns, records, steps, l)
+    let mut once = [0u8; Plan::MOST * Plan::STEP_BYTES];
+    let width = single(plan_at(records, steps, l), &mut once);
+    gather(rows, plan_part(&once, 0, width), &mut columns);
+    figures_by(&columns, width, records, steps, l)
 }

@@ -11,14 +11,14 @@ use lib.ListN.{length}
 use Rattle.trade.specs.Limits.{mostNodes, mostSteps, stepBytes}
 use Rattle.trade.specs.Facts.{disturbsIn, stepIn}
 use Rattle.trade.specs.Conflict.{meet, conflict}
-use Rattle.trade.specs.Interference.{Matrix, one, worst, worstPath}
+use Rattle.trade.specs.Interference.{worstPath}
 use Rattle.trade.specs.declared.node.Transmission.{Transmission}
 use Rattle.trade.proofs.First.{lt-or-ge}
 use Rattle.trade.proofs.Conflict.{conflict-symmetric}
-use Rattle.trade.proofs.Interference.{worst-past, worst-row}
+use Rattle.trade.proofs.Interference.{paths-agree}
 use Rattle.nodes.specs.Network.{Within}
 use Rattle.plans.specs.Plan.{AllWithin, stepsIn}
-use Rattle.pairs.specs.Columns.{marksOf, fromEnd, receiving, ending, sending, Columns, markedAt, matrixBy}
+use Rattle.pairs.specs.Columns.{marksOf, fromEnd, receiving, ending, sending, Columns, markedAt, Narrow, matrixBy}
 
 -- the tests of a conflict, in the order of the columns
 reorder : (p q r s t u : Bool) → (false || false || p || q || r || s || t || u) ≡ (p || q || u || (r || s || t))
@@ -69,60 +69,9 @@ module _ (rows : List ℕ) where
         rw (c .sent (t .sender .0) b (p .sender .numbered), c .received (t .receiver .0) b (p .receiver .numbered) (omega arith), lt-ltb b (stepsIn h) l)
         (sym (conflict-parts t (fromEnd h b) p (all (stepsIn h - suc b) (omega arith))))
 
-    pub unmarked : (t : Transmission) (b : ℕ) → Within rows t → stepsIn h ≤ b → b < mostSteps → markedAt columns t b ≡ false
+    pub columns-narrow : Narrow (stepsIn h) columns
     unfolding markedAt
-    unmarked t b p l m =
-        rw (c .sent (t .sender .0) b (p .sender .numbered), c .received (t .receiver .0) b (p .receiver .numbered) m, le-ltb b (stepsIn h) l) refl
-
--- rows without marks add nothing, at the front of a matrix
-module _ (marks : Matrix) (rows : ℕ) where
-  -- a column more reaches no less
-  worst-more : (i j k : ℕ) → worst marks rows i (suc j) k ≤ worst marks rows i j (suc k)
-  worst-more i j k =
-      ⊎-elim (λ (h : i < rows). omega (arith, worst-row marks rows i j k h))
-      (λ (h : rows ≤ i). omega (arith, worst-past marks rows i (suc j) k h)) (lt-or-ge i rows)
-
-  skip-row :
-      (columns i j k : ℕ)
-      → i < rows
-      → j + k ≡ columns
-      → ((b : ℕ) → b < columns → marks i b ≡ false)
-      → worst marks rows i j k ≡ worst marks rows (suc i) j k
-  unfolding worst one
-  skip-row columns i j zero h e none = refl
-  skip-row columns i j (suc k) h e none =
-      omega (
-        arith,
-        rw (none j (omega arith), skip-row columns i (suc j) k h (omega arith) none) at (worst-row marks rows i j k h),
-        worst-more (suc i) j k,
-      )
-
-  skip-rows :
-      (columns d : ℕ) → d ≤ rows → ((c b : ℕ) → c < d → b < columns → marks c b ≡ false) → worst marks rows 0 0 columns ≡ worst marks rows d 0 columns
-  skip-rows columns zero h none = refl
-  skip-rows columns (suc d) h none =
-      skip-rows columns d (omega arith) (λ c b l u. none c b (omega arith) u)
-      ∙ skip-row columns d 0 columns (omega arith) (omega arith) (λ b u. none d b (omega arith) u)
-
--- a matrix whose first rows are left out
-rows-shifted :
-    (marks other : Matrix) (d rows columns : ℕ)
-    → ((i j : ℕ) → i < rows → j < columns → marks (d + i) j ≡ other i j)
-    → (k n i j : ℕ)
-    → n ≡ rows - i
-    → j + k ≡ columns
-    → worst marks (d + rows) (d + i) j k ≡ worst other rows i j k
-unfolding worst
-rows-shifted marks other d rows columns same zero n i j e f = refl
-rows-shifted marks other d rows columns same (suc k) zero i j e f =
-    worst-past marks (d + rows) (d + i) j (suc k) (omega arith) ∙ sym (worst-past other rows i j (suc k) (omega arith))
-rows-shifted marks other d rows columns same (suc k) (suc n) i j e f =
-    let next : suc (d + i) ≡ d + suc i = omega arith in
-    worst-row marks (d + rows) (d + i) j k (omega arith)
-    ∙ ap₂ (λ (x y : ℕ). max x y)
-    (ap₂ (λ (x : Bool) (y : ℕ). one x + y) (same i j (omega arith) (omega arith)) (rows-shifted marks other d rows columns same k (suc n) i (suc j) e (omega arith)))
-    (ap (λ (x : ℕ). worst marks (d + rows) x j (suc k)) next ∙ rows-shifted marks other d rows columns same (suc k) n (suc i) j (omega arith) f)
-    ∙ sym (worst-row other rows i j k (omega arith))
+    columns-narrow t b p q l m = rw (c .sent (t .sender .0) b p, c .received (t .receiver .0) b q m, le-ltb b (stepsIn h) l) refl
 
 -- THE FIGURE BY COLUMNS
 pub figure-by-columns :
@@ -131,19 +80,12 @@ pub figure-by-columns :
     → Columns rows l (stepsIn l) columns
     → AllWithin rows l
     → AllWithin rows h
-    → worstPath (matrixBy columns h) mostSteps (stepsIn h) ≡ worstPath (marksOf rows l h) (stepsIn l) (stepsIn h)
-unfolding worstPath
+    → worstPath (matrixBy columns (stepsIn l) h) (stepsIn l) (stepsIn h) ≡ worstPath (marksOf rows l h) (stepsIn l) (stepsIn h)
 figure-by-columns rows l h columns short c all other =
     let n : ℕ = stepsIn l in
-    let free : ℕ = mostSteps - n in
-    let e : mostSteps ≡ free + n = omega arith in
-    skip-rows (matrixBy columns h) mostSteps (stepsIn h) free (omega arith)
-    (λ i j p q. unmarked rows l columns short c all (stepIn h j) (mostSteps - suc i) (other j (omega arith)) (omega arith) (omega arith))
-    ∙ ap₂ (λ (r i : ℕ). worst (matrixBy columns h) r i 0 (stepsIn h)) e (omega arith)
-    ∙ rows-shifted (matrixBy columns h) (marksOf rows l h) free n (stepsIn h)
+    paths-agree (matrixBy columns n h) (marksOf rows l h) n (stepsIn h)
     (λ i j p q.
-    let back : n - suc (mostSteps - suc (free + i)) ≡ i = omega arith in
-    marked-conflict rows l columns short c all (stepIn h j) (mostSteps - suc (free + i)) (other j (omega arith)) (omega arith)
+    let back : n - suc (n - suc i) ≡ i = omega arith in
+    marked-conflict rows l columns short c all (stepIn h j) (n - suc i) (other j (omega arith)) (omega arith)
     ∙ ap (λ (k : ℕ). conflict (disturbsIn rows) (stepIn h j) (stepIn l k)) back
     ∙ conflict-symmetric (disturbsIn rows) (stepIn h j) (stepIn l i))
-    (stepsIn h) n 0 0 (omega arith) (omega arith)

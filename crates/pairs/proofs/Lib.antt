@@ -1,6 +1,5 @@
 -- Laws that the proofs of this crate's functions, and those above it, cite.
 pub mod PathLaws
 pub mod SpreadLaws
-pub mod RisesLaws
 pub mod GatherLaws
 pub mod Unique

@@ -11,11 +11,11 @@ use denote.Ref.{now}
 use Rattle.trade.specs.Limits.{mostNodes, mostSteps}
 use Rattle.trade.specs.Bytes.{bit}
 use Rattle.trade.proofs.First.{lt-or-ge}
-use Rattle.trade.proofs.Unique.{OneResult, one-result}
+use Rattle.trade.proofs.Unique.{OneResult}
 use Rattle.nodes.proofs.MaskLaws.{same-bits}
 use Rattle.pairs.proofs.columns.gather.Reads as gather
-use Rattle.pairs.proofs.rises.figure.Kinds as figure-kinds
-use Rattle.pairs.proofs.rises.figure.Reads as figure
+use Rattle.pairs.proofs.columns.marks_of.Kinds as marks-of-kinds
+use Rattle.pairs.proofs.columns.marks_of.Reads as marks-of
 
 -- numbers that each say the same bits, as many, are the same
 same-words : (a b : List ℕ) → length a ≡ length b → ((x y : ℕ) → bit (getD a x 0) y ≡ bit (getD b x 0) y) → a ≡ b
@@ -37,5 +37,5 @@ gather-unique κs a r r' s s' p q =
     past : (x y : ℕ) → mostNodes ≤ x → bit (getD (now (s .1 .1 .0)) x 0) y ≡ bit (getD (now (s' .1 .1 .0)) x 0) y
     past x y h = ap (λ (n : ℕ). bit n y) (p .others x h ∙ sym (q .others x h))
 
-pub figure-unique : OneResult 2 figure-kinds.ps figure-kinds.r figure.Post
-figure-unique κs a r r' s s' p q = one-result p q
+pub marks-of-unique : OneResult 1 marks-of-kinds.ps marks-of-kinds.r marks-of.Post
+marks-of-unique κs a r r' s s' p q = same-bits r r' (λ b. p b ∙ sym (q b))

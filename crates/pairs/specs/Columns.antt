@@ -2,7 +2,7 @@
 -- plan's last. Leans on the trade's Conflict.
 use Prim.Native.Nat.{ℕ, suc, _+_, _-_, _/_, _≤_, _<_, min}
 use mathlib.Core.Path.{_≡_}
-use mathlib.Core.Bool.{Bool, cond, _&&_, _||_}
+use mathlib.Core.Bool.{Bool, false, cond, _&&_, _||_}
 use mathlib.Core.List.{List}
 use lib.Dec.{eqb, ltb}
 use lib.Bits.{bitOr}
@@ -59,9 +59,14 @@ Columns rows = ColumnsBy (receiving rows) (sending rows)
 unfoldable pub markedAt : List ℕ → Transmission → ℕ → Bool
 markedAt columns t b = bit (getD columns (t .sender .0) 0) (mostSteps + b) || bit (getD columns (t .receiver .0) 0) b
 
--- the conflict matrix that the columns of l say for a plan h: its rows are the steps of l, its last row that of the plan's last step
-abbrev pub matrixBy : List ℕ → List ℕ → Matrix
-matrixBy columns h i j = markedAt columns (stepIn h j) (mostSteps - suc i)
+-- they have no mark past the first n steps from the end
+abbrev pub Narrow : ℕ → List ℕ → Type 0
+Narrow n columns =
+    (t : Transmission) (b : ℕ) → t .sender .0 < mostNodes → t .receiver .0 < mostNodes → n ≤ b → b < mostSteps → markedAt columns t b ≡ false
+
+-- the conflict matrix that the columns of a plan of n steps say for a plan h: its rows are those steps, its last row the last of them
+abbrev pub matrixBy : List ℕ → ℕ → List ℕ → Matrix
+matrixBy columns n h i j = markedAt columns (stepIn h j) (n - suc i)
 
 -- one step noted in the columns, the b-th from the end, but for those that disturb its receiver
 pub record Noted (rows : List ℕ) (u : Transmission) (b : ℕ) (before after : List ℕ) : Type 0 where

@@ -1,3 +1,2 @@
 -- Definitions that the contracts of this crate cite beside those of the trade.
 pub mod Columns
-pub mod Rises

@@ -8,8 +8,6 @@ ghost use lib.ListN.{length, getD};
 ghost use Rattle.trade.specs.Limits.{mostNodes, mostSteps, stepBytes};
 ghost use Rattle.trade.specs.First.{some};
 ghost use Rattle.trade.specs.Bytes.{bit};
-ghost use Rattle.trade.specs.Facts.{stepIn};
-ghost use Rattle.trade.specs.Interference.{worstPath};
 ghost use Rattle.nodes.specs.Network.{Within};
 ghost use Rattle.plans.specs.Plan.{AllWithin, stepsIn};
 ghost use Rattle.pairs.specs.Columns.{Spread, Noted, Listed, Sent, Gathered, markedAt};
@@ -105,7 +103,7 @@ pub fn gather(rows: &[u8], plan: &[u8], columns: &mut [u64])
 }
 
 // The steps that a transmission conflicts with, by the columns.
-pub(crate) fn marks_of(columns: &[u64], t: Transmission) -> u32
+pub fn marks_of(columns: &[u64], t: Transmission) -> u32
     requires { ⌜ (t .sender .0 < length (now columns)) × (t .receiver .0 < length (now columns)) ⌝ }
     ensures { λ r. ⌜ ((b : ℕ) → bit r b ≡ (ltb b mostSteps && markedAt (now (columns .entry)) t b)) ⌝ }
 {

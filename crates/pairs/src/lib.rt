@@ -1,3 +1,2 @@
-// The interference of one plan on another: the columns of the one, and the line of figures that the steps of the other are worked into.
+// The columns of a plan: for each node the steps of the plan that conflict with what it sends or receives.
 pub mod columns;
-pub mod rises;

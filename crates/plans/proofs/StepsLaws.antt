@@ -16,7 +16,7 @@ use Rattle.nodes.specs.Network.{Within}
 use Rattle.plans.specs.Plan.{AllWithin, stepsIn, planIn, noStep, stepOr, planStep}
 
 -- from one node to another
-abbrev sent : ℕ → ℕ → Transmission
+abbrev pub sent : ℕ → ℕ → Transmission
 sent a b = record { sender = record { 0 = a }; receiver = record { 0 = b } }
 
 -- the step at a place that a part holds whole, and at any other
@@ -82,11 +82,11 @@ module _ (steps : List ℕ) (first count : ℕ) where
       (lt-or-ge j count)
 
   module _ (fits : stepBytes * (first + count) ≤ length steps) where
-    length-plan : length plan ≡ stepBytes * count
-    length-plan = omega (arith, length-part)
+    pub plan-length : length plan ≡ stepBytes * count
+    plan-length = omega (arith, length-part)
 
     pub steps-plan : stepsIn plan ≡ count
-    steps-plan = rw length-plan (omega arith)
+    steps-plan = rw plan-length (omega arith)
 
     pub within-plan : (rows : List ℕ) → ((k : ℕ) → k < first + count → Within rows (stepIn steps k)) → AllWithin rows plan
-    within-plan rows all k h = let l : k < count = omega (arith, length-plan) in rw (step-plan k l) (all (first + k) (omega arith))
+    within-plan rows all k h = let l : k < count = omega (arith, plan-length) in rw (step-plan k l) (all (first + k) (omega arith))

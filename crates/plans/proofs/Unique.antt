@@ -16,6 +16,7 @@ use denote.Triple.Clauses.{Ended, AtExit, Clauses, ensured, closing}
 use denote.Triple.Entry.{Args, Res}
 use denote.Triple.Spec.{Spec}
 use Rattle.trade.proofs.Unique.{OneResult, one-result}
+use Rattle.plans.proofs.SingleLaws.{singled-unique}
 use Rattle.plans.proofs.Callee.{clause}
 use Rattle.plans.proofs.steps.step_at.Kinds as step-at-kinds
 use Rattle.plans.proofs.steps.step_at.Reads as step-at
@@ -24,6 +25,7 @@ use Rattle.plans.proofs.steps.step_count.Reads as step-count
 use Rattle.plans.proofs.steps.step_or_none.Kinds as step-or-none-kinds
 use Rattle.plans.proofs.steps.step_or_none.Reads as step-or-none
 use Rattle.plans.proofs.steps.plan_part.Reads as plan-part
+use Rattle.plans.proofs.single.single.Reads as single
 use Rattle.plans.proofs.view.view_of as view-of
 use Rattle.plans.proofs.view.view_len as view-len
 use Rattle.plans.proofs.view.view_step as view-step
@@ -42,6 +44,9 @@ step-or-none-unique κs a r r' s s' p q = one-result p q
 -- a part is lent on: what it holds is one list
 pub plan-part-unique : (κs : _) (a : _) (r r' : _) (s s' : _) → plan-part.Post κs a r s → plan-part.Post κs a r' s' → now r ≡ now r'
 plan-part-unique κs a r r' s s' p q = one-result p q
+
+pub single-unique : (κs : _) (a : _) (r r' : _) (s s' : _) → single.Post κs a r s → single.Post κs a r' s' → (r ≡ r') × (now (s .1 .0) ≡ now (s' .1 .0))
+single-unique κs a r r' s s' p q = (one-result (p .1) (q .1), singled-unique _ _ _ _ _ (p .0) (q .0))
 
 pub plan-step-unique : OneResult 1 plan-step-kinds.ps plan-step-kinds.r plan-step.Post
 plan-step-unique κs a r r' s s' p q = one-result p q

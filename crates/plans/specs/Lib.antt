@@ -1,2 +1,3 @@
 -- Definitions that the contracts of this crate cite beside those of the trade.
 pub mod Plan
+pub mod Single

@@ -1,59 +1,54 @@
 //! Interference and the response bound.
 
-use super::book::{bit, row_mask, Book, Record};
+use super::book::{bit, Book, Record};
 use crate::answer::*;
 use crate::limits::*;
 
-/// For one flow's plan, the steps (as bits) that a transmission from or to each node conflicts with.
+/// For one flow's plan, the steps (as bits) that a transmission from or to each node conflicts with. A step that repeats
+/// the one before it has no bit of its own: to choose it is to choose that one.
 struct Columns {
     by_sender: [u32; MAX_NODES],
     by_receiver: [u32; MAX_NODES],
-    len: usize,
+    /// How many steps have a bit.
+    len: u32,
 }
 
 impl Columns {
-    fn of(book: &Book, plan: &[u8]) -> Columns {
-        let mut columns =
-            Columns { by_sender: [0; MAX_NODES], by_receiver: [0; MAX_NODES], len: plan.len() / STEP_BYTES };
-        // The plan's steps that each node receives or takes any part in.
+    fn blank() -> Columns {
+        Columns { by_sender: [0; MAX_NODES], by_receiver: [0; MAX_NODES], len: 0 }
+    }
+
+    /// The columns of a plan, complete for the nodes that are asked for.
+    fn gather(&mut self, book: &Book, plan: &[u8], asked: u64) {
+        // The plan's steps that each node receives, and the nodes that receive any.
         let mut received = [0u32; MAX_NODES];
         let mut receivers = 0;
-        for (i, step) in plan.chunks_exact(STEP_BYTES).enumerate() {
-            let mine = 1 << i;
-            for node in [step[0], step[1]] {
-                columns.by_sender[usize::from(node) % MAX_NODES] |= mine;
-                columns.by_receiver[usize::from(node) % MAX_NODES] |= mine;
+        // No step goes from a node to itself.
+        let mut last = [0; STEP_BYTES];
+        for step in plan.chunks_exact(STEP_BYTES) {
+            if *step == last {
+                continue;
             }
-            for_each_node(book.row(step[0]), |node| columns.by_receiver[node] |= mine);
+            last = [step[0], step[1]];
+            let mine = 1 << self.len;
+            self.len += 1;
+            for node in last {
+                self.by_sender[usize::from(node) % MAX_NODES] |= mine;
+                self.by_receiver[usize::from(node) % MAX_NODES] |= mine;
+            }
+            for_each_node(book.row(step[0]) & asked, |node| self.by_receiver[node] |= mine);
             received[usize::from(step[1]) % MAX_NODES] |= mine;
             receivers |= bit(step[1]);
         }
-        for (x, row) in book.rows.chunks_exact(ROW_BYTES).enumerate() {
-            for_each_node(row_mask(row) & receivers, |node| columns.by_sender[x] |= received[node]);
-        }
-        columns
+        for_each_node(asked, |node| {
+            let sent = &mut self.by_sender[node];
+            for_each_node(book.row(node as u8) & receivers, |disturbed| *sent |= received[disturbed]);
+        });
     }
 
-    /// The worst count over the steps of the higher plan: `line[i]` is the most that choices up to step i reach.
-    fn interference(&self, higher: &[u8]) -> u32 {
-        let mut line = [0u32; MAX_LEN];
-        let line = &mut line[..self.len];
-        for step in higher.chunks_exact(STEP_BYTES) {
-            let sent = self.by_sender[usize::from(step[0]) % MAX_NODES];
-            let column = sent | self.by_receiver[usize::from(step[1]) % MAX_NODES];
-            // Below its first mark a column changes nothing.
-            let from = column.trailing_zeros();
-            let Some(marked) = line.get_mut(from as usize..) else {
-                continue;
-            };
-            let (mut marks, mut best) = (column.checked_shr(from).unwrap_or(0), 0);
-            for figure in marked {
-                best = best.max(*figure + (marks & 1));
-                *figure = best;
-                marks >>= 1;
-            }
-        }
-        line.last().copied().unwrap_or(0)
+    /// The steps that a step of another plan conflicts with.
+    fn marks(&self, step: &[u8]) -> u32 {
+        self.by_sender[usize::from(step[0]) % MAX_NODES] | self.by_receiver[usize::from(step[1]) % MAX_NODES]
     }
 }
 
@@ -64,7 +59,42 @@ fn for_each_node(mut nodes: u64, mut act: impl FnMut(usize)) {
     }
 }
 
-/// A higher flow as the bound sees it: `reach` is what R + D − 1 may come to before one more instance counts.
+/// The binary digits of a rise: the most that they hold is more than the steps of a plan can take.
+const DIGITS: usize = 6;
+
+/// Works out higher plans side by side. Each has a lane in a word: a place for each bit of the columns, then its end. The
+/// j-th word has the marks of every plan's j-th step.
+///
+/// With the steps so far, choices up to a place reach some worst count, and the place has by how much that count rises
+/// there. A further step raises it by one from each of its marks on, up to the next rise, which becomes one less: so a
+/// carry starts at each mark, goes on where the count is level, and ends at a rise. At an end stands the most that the
+/// digits hold, and what is taken there is the interference. Returned are the digits, each for all places.
+fn worked_out(words: &[u64], ends: u64) -> [u64; DIGITS] {
+    let mut digits = [ends; DIGITS];
+    let mut level = !ends;
+    for marks in words {
+        let passing = marks | level;
+        let sum = passing + marks;
+        let (more, less) = (marks & !sum, sum & !passing);
+        let single = digits[0] & !digits[1..].iter().fold(0, |any, digit| any | digit);
+        level = (level & !more) | (less & single);
+        let mut change = more | less;
+        for digit in &mut digits {
+            let carries = *digit ^ less;
+            *digit ^= change;
+            change &= carries;
+        }
+    }
+    digits
+}
+
+/// What has been taken at an end.
+fn taken(digits: &[u64; DIGITS], end: u32) -> u32 {
+    digits.iter().rev().fold(0, |taken, digit| taken << 1 | (!digit >> end & 1) as u32)
+}
+
+/// A higher flow as the bound sees it: `reach` is what R + D − 1 may come to before one more instance counts, and `cost`
+/// what each instance adds.
 #[derive(Clone, Copy, Default)]
 struct Rival {
     reach: u32,
@@ -73,32 +103,58 @@ struct Rival {
     cost: u32,
 }
 
+impl Rival {
+    /// Puts it before its first instance; a flow that costs nothing never comes to count.
+    fn charge(&mut self, cost: u32) {
+        self.cost = cost;
+        self.reach = if cost == 0 { u32::MAX } else { 0 };
+    }
+}
+
 impl Book<'_> {
     /// Code 9, or acceptance.
     pub fn admit(&self) -> u32 {
         let mut rivals = [Rival::default(); MAX_FLOWS];
+        // The nodes of the flows above.
+        let mut nodes = 0;
         for (l, plan) in self.plans().enumerate() {
-            let count = if l == 0 { 0 } else { self.rivals_of(l, plan, &mut rivals) };
-            if !has_bound(self.record(l), &mut rivals[..count]) {
+            let record = self.record(l);
+            let (above, own) = rivals.split_at_mut(l);
+            if l != 0 {
+                self.weigh(plan, above, nodes);
+            }
+            if !has_bound(record, above) {
                 return packed(NO_BOUND, l);
             }
+            own[0] = Rival { reach: 0, period: record.period, carry: record.deadline - 1, cost: 0 };
+            nodes |= plan.iter().fold(0, |nodes, &node| nodes | bit(node));
         }
         packed(DONE, 0)
     }
 
-    /// The flows above l that it has to wait for at all; how many they are.
-    fn rivals_of(&self, l: usize, plan: &[u8], rivals: &mut [Rival; MAX_FLOWS]) -> usize {
-        let columns = Columns::of(self, plan);
-        let mut count = 0;
-        for (h, higher) in self.plans().take(l).enumerate() {
-            let cost = columns.interference(higher);
-            if cost != 0 {
-                let above = self.record(h);
-                rivals[count] = Rival { reach: 0, period: above.period, carry: above.deadline - 1, cost };
-                count += 1;
+    /// What each flow above costs a flow with this plan; `nodes` are theirs. As many of them as a word has room for go side
+    /// by side.
+    fn weigh(&self, plan: &[u8], above: &mut [Rival], nodes: u64) {
+        let mut columns = Columns::blank();
+        columns.gather(self, plan, nodes);
+        let len = columns.len;
+        let mut plans = self.plans();
+        for rivals in above.chunks_mut((u64::BITS / (len + 1)) as usize) {
+            let (mut words, mut steps) = ([0; MAX_LEN], 0);
+            let (mut ends, mut end) = (0, len);
+            for higher in plans.by_ref().take(rivals.len()) {
+                for (word, step) in words.iter_mut().zip(higher.chunks_exact(STEP_BYTES)) {
+                    *word |= u64::from(columns.marks(step)) << (end - len);
+                }
+                steps = steps.max(higher.len() / STEP_BYTES);
+                ends |= 1 << end;
+                end += len + 1;
+            }
+            let digits = worked_out(&words[..steps], ends);
+            for (rival, end) in rivals.iter_mut().zip((len..).step_by(len as usize + 1)) {
+                rival.charge(taken(&digits, end));
             }
         }
-        count
     }
 }
 

@@ -1,6 +1,6 @@
 //! The yardstick: the three calls as a careful engineer would ship them. Each section of the book is tested in one
-//! go, node sets are 64-bit masks, the interference keeps one line of figures, the bound rises without a division,
-//! and nothing is allocated or copied.
+//! go, node sets are 64-bit masks, the interference of several flows is worked out side by side in one word, the bound
+//! rises without a division, and nothing is allocated or copied.
 
 mod book;
 mod bound;

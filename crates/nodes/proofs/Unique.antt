@@ -3,6 +3,8 @@
 use Rattle.trade.proofs.Unique.{OneResult, one-result}
 use Rattle.nodes.proofs.mask.only.Kinds as only-kinds
 use Rattle.nodes.proofs.mask.only.Reads as only
+use Rattle.nodes.proofs.mask.row_at.Kinds as row-at-kinds
+use Rattle.nodes.proofs.mask.row_at.Reads as row-at
 use Rattle.nodes.proofs.mask.row_mask.Kinds as row-mask-kinds
 use Rattle.nodes.proofs.mask.row_mask.Reads as row-mask
 use Rattle.nodes.proofs.conflict.disturbs.Kinds as disturbs-kinds
@@ -18,6 +20,9 @@ use Rattle.nodes.proofs.grants.GrantSet.with.Reads as with
 
 pub only-unique : OneResult 0 only-kinds.ps only-kinds.r only.Post
 only-unique κs a r r' s s' p q = one-result p q
+
+pub row-at-unique : OneResult 1 row-at-kinds.ps row-at-kinds.r row-at.Post
+row-at-unique κs a r r' s s' p q = one-result p q
 
 pub row-mask-unique : OneResult 1 row-mask-kinds.ps row-mask-kinds.r row-mask.Post
 row-mask-unique κs a r r' s s' p q = one-result p q

@@ -2,7 +2,7 @@
 ghost use mathlib.Core.Path.{_≡_};
 ghost use Prim.Native.Nat.{_+_, _*_, _^_, _≤_, _<_};
 ghost use lib.ListN.{length};
-ghost use Rattle.trade.specs.Limits.{mostNodes};
+ghost use Rattle.trade.specs.Limits.{mostNodes, rowBytes};
 ghost use Rattle.trade.specs.Bytes.{bit};
 ghost use Rattle.nodes.specs.Network.{InNetwork};
 ghost use Rattle.nodes.specs.Mask.{only, lowFirst, rowMask};
@@ -54,7 +54,15 @@ fn eight(bytes: &[u8], at: usize) -> u64
     joined(four(bytes, at + 4), four(bytes, at), 32)
 }
 
-// The nodes that a node disturbs: its row.
+// The nodes that the node of this number disturbs: its row.
+pub fn row_at(rows: &[u8], x: usize) -> u64
+    requires { ⌜ rowBytes * x + rowBytes ≤ length (now rows) ⌝ }
+    ensures { λ r. ⌜ r ≡ rowMask (now (rows .entry)) x ⌝ }
+{
+    eight(rows, Node::ROW_BYTES * x)
+}
+
+// The nodes that a node disturbs.
 pub fn row_mask(rows: &[u8], x: Node) -> u64
     requires { ⌜ InNetwork (now rows) x ⌝ }
     ensures { λ r. ⌜ r ≡ rowMask (now (rows .entry)) (x .0) ⌝ }

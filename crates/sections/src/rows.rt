@@ -8,9 +8,8 @@ ghost use lib.ListN.{length};
 ghost use Rattle.trade.specs.Limits.{rowBytes, mostNodes};
 ghost use Rattle.trade.specs.Facts.{factsIn};
 ghost use Rattle.trade.specs.Codes.{badRow, code5};
-use nodes::mask::row_mask;
+use nodes::mask::row_at;
 use trade::Answer;
-use trade::Node;
 
 // Whether a set has a node at or above n. In two shifts, each by less than the 64 bits of a set.
 fn has_above(nodes: usize, set: u64) -> bool
@@ -25,7 +24,7 @@ fn is_bad_row(nodes: usize, rows: &[u8], x: usize) -> bool
     requires { ⌜ (x < nodes) × (nodes ≤ mostNodes) × (rowBytes * nodes ≤ length (now rows)) ⌝ }
     ensures { λ r. ⌜ r ≡ badRow (factsIn nodes 0 (now (rows .entry)) [] []) x ⌝ }
 {
-    let set = row_mask(rows, Node(x as u8));
+    let set = row_at(rows, x);
     ((set >> x) % 2 == 1) | has_above(nodes, set)
 }
 

@@ -11,10 +11,10 @@ returns : tie.Need-returns
 unfolding bit
 returns c =
     let a = c .before .before .before .args in
-    rw (c .has-above .ensures, c .before .row-mask .ensures)
+    rw (c .has-above .ensures, c .before .row-at .ensures)
     (bad-row (a .nodes) (now (a .rows)) (a .x) (λ i. c .before .before .shared-slice-known .given i .fits)
-    (rw (← c .before .row-mask .ensures) (omega arith)) (omega arith) (omega arith))
+    (rw (← c .before .row-at .ensures) (omega arith)) (omega arith) (omega arith))
 
 pub is-bad-row-spec : {M : Type 1} → statement M
 is-bad-row-spec =
-    tie.close (tie.spec (λ c. search needs) (λ c κs. search needs) (λ c. search needs) (λ c κs. search needs) returns)
+    tie.close (tie.spec (λ c κs. search needs) (λ c. search needs) (λ c κs. search needs) returns)

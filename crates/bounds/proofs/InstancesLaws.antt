@@ -2,10 +2,11 @@
 -- period. Leans on nothing. Assumes nothing.
 use Prim.Native.Nat.{ℕ, suc, _+_, _-_, _*_, _/_, _≤_, _<_}
 use mathlib.Core.Path.{_≡_}
-use mathlib.Core.Logic.{_↔_}
+use mathlib.Core.Logic.{_↔_, ⊎-elim}
 use native.Mathlib.Omega.{arith}
 use native.Mathlib.Nat.{div-lt-iff-lt-mul, le-trans, mul-le-mul-left, mul-one}
 use Rattle.trade.specs.Bound.{ceil, instances}
+use Rattle.trade.proofs.First.{lt-or-ge}
 
 -- ceil(a / b) is the least n whose multiple of b is at least a
 pub ceil-least : (a b n : ℕ) → 1 ≤ b → (ceil a b ≤ n) ↔ (a ≤ n * b)
@@ -27,6 +28,12 @@ ceil-least a b n p = (below, above)
 
 pub ceil-reaches : (a b : ℕ) → 1 ≤ b → a ≤ ceil a b * b
 ceil-reaches a b p = ceil-least a b (ceil a b) p .0 (omega arith)
+
+-- where it is
+pub ceil-at : (a b n : ℕ) → 1 ≤ b → a ≤ suc n * b → n * b < a → suc n ≡ ceil a b
+ceil-at a b n p h l =
+    ⊎-elim (λ (q : n < ceil a b). omega (arith, ceil-least a b (suc n) p .1 h))
+    (λ (q : ceil a b ≤ n). absurd (omega (arith, ceil-least a b n p .0 q))) (lt-or-ge n (ceil a b))
 
 -- it grows with a, shrinks with b, and is at most a
 pub ceil-mono : (a c b d : ℕ) → 1 ≤ d → d ≤ b → a ≤ c → ceil a b ≤ ceil c d

@@ -23,4 +23,4 @@ pub record Terms (k : ℕ) (figures periods carries : List ℕ) : Type 0 where
   pub above : k ≤ mostFlows
   pub figure : (h : ℕ) → h < k → getD figures h 0 ≤ mostSteps
   pub period : (h : ℕ) → h < k → (1 ≤ getD periods h 0) × (getD periods h 0 ≤ mostPeriod)
-  pub carry : (h : ℕ) → h < k → getD carries h 0 ≤ mostPeriod
+  pub carry : (h : ℕ) → h < k → (1 ≤ getD carries h 0) × (getD carries h 0 ≤ mostPeriod)

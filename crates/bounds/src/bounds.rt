@@ -1,18 +1,21 @@
 // The response bounds of all flows of a book or a table, and code 9.
 ghost use mathlib.Core.Path.{_≡_};
 ghost use Prim.Native.Nat.{ℕ, _+_, _≤_, _<_};
-ghost use lib.ListN.{getD};
-ghost use Rattle.trade.specs.Limits.{mostFlows, mostPeriod};
+ghost use lib.ListN.{length, getD};
+ghost use Rattle.trade.specs.Limits.{mostFlows, mostNodes, mostPeriod};
 ghost use Rattle.trade.specs.Layout.{field};
 ghost use Rattle.trade.specs.Facts.{factsIn};
 ghost use Rattle.trade.specs.Bound.{byInterference, boundBy};
 ghost use Rattle.sections.specs.Formed.{Formed};
+ghost use Rattle.figures.specs.Figures.{AllHeard};
 ghost use Rattle.bounds.specs.Bounds.{refusedBy, boundedBy};
 use crate::rising::smallest;
 use figures::figures::figures_at;
+use figures::figures::hear_above;
 use sections::records::record_at;
 use trade::Answer;
 use trade::Flow;
+use trade::Node;
 
 // An answer, and the bounds of the flows with zeros elsewhere; refused, all zeros.
 pub struct Checked {
@@ -30,9 +33,10 @@ pub(crate) fn refused(answer: Answer) -> Checked
     }
 }
 
-// The bound of flow l, by the periods and the carry-in of the flows above it; its deadline + 1 where it has none.
+// The bound of flow l, by who is heard, and the periods and the carry-in of the flows above it; its deadline + 1 where it has none.
 fn bound_at(
     rows: &[u8],
+    heard: &[u64],
     records: &[u8],
     steps: &[u8],
     l: usize,
@@ -41,11 +45,12 @@ fn bound_at(
 ) -> u32
     requires { ⌜ Formed (l + 1) (now rows) (now records) (now steps) ⌝ }
     requires { ⌜ ((h : ℕ) → h < l → getD (now periods) h 0 ≡ field (now records) h 2) ⌝ }
-    requires { ⌜ ((h : ℕ) → h < l → getD (now carries) h 0 ≤ mostPeriod) ⌝ }
+    requires { ⌜ ((h : ℕ) → h < l → (1 ≤ getD (now carries) h 0) × (getD (now carries) h 0 ≤ mostPeriod)) ⌝ }
+    requires { ⌜ (mostNodes ≤ length (now heard)) × AllHeard l (now rows) (now records) (now steps) (now heard) ⌝ }
     ensures { λ r. ⌜ r ≡ boundBy (factsIn 0 0 (now (rows .entry)) (now (records .entry)) (now (steps .entry))) (byInterference (factsIn 0 0 (now (rows .entry)) (now (records .entry)) (now (steps .entry))) (λ h. getD (now (carries .entry)) h 0)) l ⌝ }
 {
     let flow = record_at(records, l);
-    let figures = figures_at(rows, records, steps, l);
+    let figures = figures_at(rows, heard, records, steps, l);
     smallest(
         flow.len as u32,
         flow.deadline as u32,
@@ -61,13 +66,15 @@ pub fn bounds_of(flows: usize, rows: &[u8], records: &[u8], steps: &[u8]) -> Che
     requires { ⌜ Formed flows (now rows) (now records) (now steps) ⌝ }
     ensures { λ r. ⌜ r ≡ boundedBy (factsIn 0 flows (now (rows .entry)) (now (records .entry)) (now (steps .entry))) ⌝ }
 {
+    let mut heard = [0u64; Node::MOST];
+    hear_above(flows, rows, records, steps, &mut heard);
     let mut bounds = [0u16; Flow::MOST];
     let mut periods = [0u16; Flow::MOST];
     let mut carries = [0u16; Flow::MOST];
     let mut l = 0;
     while l < flows {
         let flow = record_at(records, l);
-        let bound = bound_at(rows, records, steps, l, &periods, &carries);
+        let bound = bound_at(rows, &heard, records, steps, l, &periods, &carries);
         if (flow.deadline as u32) < bound {
             return refused(Answer::refused(9, l as u64));
         }

@@ -7,12 +7,19 @@ ghost use Rattle.trade.specs.Bound.{instances};
 ghost use Rattle.bounds.specs.Terms.{Terms, neededIn, smallestIn};
 use trade::Flow;
 
-// How many instances of a flow above may act within r slots: ceil((r + carry - 1) / period).
+// How many instances of a flow above may act within r slots: ceil((r + carry - 1) / period). It seldom takes a division to tell.
 fn instances(r: u32, carry: u32, period: u32) -> u32
-    requires { ⌜ (1 ≤ r) × (r ≤ mostPeriod) × (carry ≤ mostPeriod) × (1 ≤ period) × (period ≤ mostPeriod) ⌝ }
+    requires { ⌜ (1 ≤ r) × (r ≤ mostPeriod) × (1 ≤ carry) × (carry ≤ mostPeriod) × (1 ≤ period) × (period ≤ mostPeriod) ⌝ }
     ensures { λ n. ⌜ (n ≡ instances r carry period) × (n ≤ 2 * mostPeriod) ⌝ }
 {
-    (r + carry - 1 + (period - 1)) / period
+    let reach = r + carry - 1;
+    if reach <= period {
+        return 1;
+    }
+    if reach <= 2 * period {
+        return 2;
+    }
+    (reach + (period - 1)) / period
 }
 
 // The slots that a flow needs within r slots: its own, and for each flow above it the instances of that flow, times its figure.

@@ -17,14 +17,20 @@ use Rattle.plans.specs.Plan.{AllWithin, stepsIn, planIn}
 use Rattle.plans.specs.Single.{again, singles, placeOf, Singled}
 use Rattle.plans.proofs.StepsLaws.{step-plan, plan-length, steps-plan}
 use Rattle.plans.proofs.SingleLaws.{singles-none, singles-new, singles-some, singles-most, place-below, place-next, place-onto}
-use Rattle.trade.proofs.First.{lt-or-ge}
-use Rattle.pairs.specs.Columns.{marksOf, Columns, matrixBy}
+use mathlib.Core.Bool.{true, false, _||_}
+use lib.Dec.{eqb}
+use Rattle.trade.specs.declared.node.Node.{Node}
+use Rattle.nodes.specs.Network.{InNetwork}
+use borrow.Author.Tests.{eq-eqb, eqb-true}
+use Rattle.trade.specs.First.{some}
+use Rattle.trade.proofs.First.{lt-or-ge, bool-cases, some-true, some-intro}
+use Rattle.pairs.specs.Columns.{nodesIn, ending, marksOf, Columns, matrixBy}
 use Rattle.figures.proofs.RisesLaws.{worst-at-most}
 use Rattle.pairs.proofs.PathLaws.{interference-plans, path-once}
 use Rattle.pairs.proofs.GatherLaws.{figure-by-columns}
 use Rattle.sections.specs.Formed.{Formed, planStart, planAt}
-use Rattle.sections.proofs.FormedLaws.{plan-lies, length-plan, plan-within}
-use Rattle.figures.specs.Figures.{figureBy, Asked}
+use Rattle.sections.proofs.FormedLaws.{plan-ends, plan-lies, length-plan, plan-within}
+use Rattle.figures.specs.Figures.{figureBy, Asked, HeardIn, AllHeard}
 use Rattle.figures.specs.Rises.{laneAt, riseAt}
 use Rattle.figures.specs.Lanes.{ReadOut}
 use Rattle.figures.specs.declared.rises.Rises.{Rises}
@@ -86,26 +92,28 @@ module _ (rows plan before once : List ℕ) (short : length plan ≤ length once
 
 -- the figures that the columns of a plan give are those of its flow
 pub figure-columns :
-    (k : ℕ) (rows records steps before once columns : List ℕ) (l : ℕ)
+    (k : ℕ) (rows heard records steps before once columns : List ℕ) (l : ℕ)
     → Formed k rows records steps
     → l < k
+    → AllHeard l rows records steps heard
     → length (planAt records steps l) ≤ length once
     → Singled (planAt records steps l) before once
-    → Columns rows (planIn once 0 (singles (planAt records steps l) (stepsIn (planAt records steps l)))) (stepsIn (planIn once 0 (singles (planAt records steps l) (stepsIn (planAt records steps l))))) columns
+    → Columns rows heard (planIn once 0 (singles (planAt records steps l) (stepsIn (planAt records steps l)))) (stepsIn (planIn once 0 (singles (planAt records steps l) (stepsIn (planAt records steps l))))) columns
     → (h : ℕ)
-    → h < k
+    → h < l
     → figureBy columns (singles (planAt records steps l) (stepsIn (planAt records steps l))) (planAt records steps h) ≡ interference (factsIn 0 0 rows records steps) l h
-figure-columns k rows records steps before once columns l f p room s c h q =
+figure-columns k rows heard records steps before once columns l f p hears room s c h q =
+    let above : h < k = omega arith in
     let plan : List ℕ = planAt records steps l in
     let other : List ℕ = planAt records steps h in
     let some : 0 < stepsIn plan
     = omega (arith, steps-plan steps (planStart records l) (field records l 4) (plan-lies k rows records steps f l p), f .fields l p .len .0) in
     ap (λ (n : ℕ). worstPath (matrixBy columns n other) n (stepsIn other)) (sym (once-steps rows plan before once room s))
-    ∙ figure-by-columns rows (planIn once 0 (singles plan (stepsIn plan))) other columns
+    ∙ figure-by-columns rows heard (planIn once 0 (singles plan (stepsIn plan))) other columns
     (omega (arith, once-length rows plan before once room s, length-plan k rows records steps f l p)) c
-    (once-within rows plan before once room s (plan-within k rows records steps f l p)) (plan-within k rows records steps f h q)
+    (once-within rows plan before once room s (plan-within k rows records steps f l p)) (plan-within k rows records steps f h above) (λ j b. hears h j q b)
     ∙ sym (once-figure rows plan before once room s other some)
-    ∙ sym (figure-plans k rows records steps f l h p q)
+    ∙ sym (figure-plans k rows records steps f l h p above)
 
 -- a plan of a formed book may be asked about
 pub plan-asked : (k : ℕ) (rows records steps : List ℕ) → Formed k rows records steps → (h : ℕ) → h < k → Asked (planAt records steps h)
@@ -136,3 +144,40 @@ filled-group line n first until figure after o m is r =
 
     behind : (i : ℕ) → until ≤ i → getD after i 0 ≡ getD (filled mostFlows figure until) i 0
     behind i h = r .past i h ∙ filled-behind mostFlows figure first i (omega arith) ∙ sym (filled-behind mostFlows figure until i h)
+
+-- what is heard of all flows is heard of those above one of them
+pub all-heard :
+    (k l : ℕ) (rows records steps heard : List ℕ)
+    → Formed k rows records steps
+    → l < k
+    → HeardIn k rows records steps heard
+    → AllHeard l rows records steps heard
+unfolding ending
+all-heard k l rows records steps heard f below r h j p q y b =
+    let at : ℕ = planStart records h + j in
+    let own = steps-plan steps (planStart records h) (field records h 4) (plan-lies k rows records steps f h (omega arith)) in
+    let same : stepIn (planAt records steps h) j ≡ stepIn steps at = step-plan steps (planStart records h) (field records h 4) j (omega (arith, own)) in
+    let x : ℕ = stepIn steps at .sender .0 in
+    let sends : some (λ (i : ℕ). ending (stepIn steps i) x) (planStart records (k - 1)) ≡ true
+    = some-intro (λ (i : ℕ). ending (stepIn steps i) x) (planStart records (k - 1)) at (omega (arith, own, plan-ends records h (k - 1) (omega arith)))
+    (rw (eq-eqb x x refl) refl) in
+    rw same (r .bits y x b ∙ rw sends refl)
+
+-- the nodes of the flows have rows
+pub nodes-known :
+    (k : ℕ) (rows records steps : List ℕ)
+    → Formed k rows records steps
+    → (x : ℕ)
+    → some (λ j. ending (stepIn steps j) x) (planStart records k) ≡ true
+    → x < nodesIn rows
+unfolding ending
+nodes-known k rows records steps f x e =
+    let at = some-true (λ (j : ℕ). ending (stepIn steps j) x) (planStart records k) e in
+    let w = f .within _ (at .0) in
+    ends (w .sender) (w .receiver) (at .1)
+  where
+    ends : {a b : Node} → InNetwork rows a → InNetwork rows b → (eqb (a .0) x || eqb (b .0) x) ≡ true → x < nodesIn rows
+    ends {a} {b} p q t =
+        ⊎-elim (λ (z : eqb (a .0) x ≡ true). omega (arith, eqb-true (a .0) x z, p .numbered, p .row))
+        (λ (z : eqb (a .0) x ≡ false). let y : eqb (b .0) x ≡ true = rw z at t in omega (arith, eqb-true (b .0) x y, q .numbered, q .row))
+        (bool-cases (eqb (a .0) x))

@@ -1,7 +1,7 @@
 // The interference of the flows above a flow on it, as one line of figures, worked out by the columns of the flow's plan.
 ghost use mathlib.Core.Path.{_≡_};
 ghost use Prim.Native.Nat.{ℕ, _+_, _*_, _≤_, _<_};
-ghost use lib.ListN.{length};
+ghost use lib.ListN.{length, getD};
 ghost use Rattle.trade.specs.Limits.{recordBytes, mostFlows, mostNodes, mostSteps};
 ghost use Rattle.trade.specs.First.{listTo};
 ghost use Rattle.trade.specs.Bytes.{padded};
@@ -9,11 +9,13 @@ ghost use Rattle.trade.specs.Facts.{factsIn};
 ghost use Rattle.trade.specs.Interference.{interference};
 ghost use Rattle.pairs.specs.Columns.{Narrow};
 ghost use Rattle.sections.specs.Formed.{Formed, planAt};
-ghost use Rattle.figures.specs.Figures.{figureBy, Asked};
+ghost use Rattle.figures.specs.Figures.{figureBy, Asked, HeardIn, AllHeard};
 use crate::lanes::lay_group;
 use crate::lanes::read_out;
 use crate::rises::worked_out;
 use pairs::columns::gather;
+use pairs::columns::hear;
+use pairs::columns::nodes_in;
 use plans::single::single;
 use plans::steps::plan_part;
 use sections::records::len_at;
@@ -57,9 +59,28 @@ fn figures_by(
     figures
 }
 
+// For each node, those that disturb it, of the nodes of the flows that stand above another, put into a blank table.
+pub fn hear_above(flows: usize, rows: &[u8], records: &[u8], steps: &[u8], heard: &mut [u64])
+    requires { ⌜ Formed flows (now rows) (now records) (now steps) ⌝ }
+    requires { ⌜ (length (now heard) ≡ mostNodes) × ((y : ℕ) → y < mostNodes → getD (now heard) y 0 ≡ 0) ⌝ }
+    ensures { λ _. ⌜ HeardIn flows (now (rows .entry)) (now (records .entry)) (now (steps .entry)) (now (heard .exit)) ⌝ }
+{
+    if 1 < flows {
+        let nodes = nodes_in(steps, steps_before(records, flows - 1));
+        hear(rows, nodes, heard);
+    }
+}
+
 // The same, the columns gathered, of the plan with its repeated steps once. The first flow has none above it.
-pub fn figures_at(rows: &[u8], records: &[u8], steps: &[u8], l: usize) -> [u32; Flow::MOST]
+pub fn figures_at(
+    rows: &[u8],
+    heard: &[u64],
+    records: &[u8],
+    steps: &[u8],
+    l: usize,
+) -> [u32; Flow::MOST]
     requires { ⌜ Formed (l + 1) (now rows) (now records) (now steps) ⌝ }
+    requires { ⌜ (mostNodes ≤ length (now heard)) × AllHeard l (now rows) (now records) (now steps) (now heard) ⌝ }
     ensures { λ r. ⌜ r ≡ padded mostFlows (listTo (interference (factsIn 0 0 (now (rows .entry)) (now (records .entry)) (now (steps .entry))) l) l) ⌝ }
 {
     if l == 0 {
@@ -68,6 +89,6 @@ pub fn figures_at(rows: &[u8], records: &[u8], steps: &[u8], l: usize) -> [u32; 
     let mut columns = [0u64; Node::MOST];
     let mut once = [0u8; Plan::MOST * Plan::STEP_BYTES];
     let width = single(plan_at(records, steps, l), &mut once);
-    gather(rows, plan_part(&once, 0, width), &mut columns);
+    gather(rows, heard, plan_part(&once, 0, width), &mut columns);
     figures_by(&columns, width, records, steps, l)
 }

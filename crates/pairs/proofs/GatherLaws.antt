@@ -18,7 +18,7 @@ use Rattle.trade.proofs.Conflict.{conflict-symmetric}
 use Rattle.trade.proofs.Interference.{paths-agree}
 use Rattle.nodes.specs.Network.{Within}
 use Rattle.plans.specs.Plan.{AllWithin, stepsIn}
-use Rattle.pairs.specs.Columns.{marksOf, fromEnd, receiving, ending, sending, Columns, markedAt, Narrow, matrixBy}
+use Rattle.pairs.specs.Columns.{marksOf, fromEnd, Hears, receiving, sending, Columns, markedAt, Narrow, matrixBy}
 
 -- the tests of a conflict, in the order of the columns
 reorder : (p q r s t u : Bool) → (false || false || p || q || r || s || t || u) ≡ (p || q || u || (r || s || t))
@@ -43,10 +43,15 @@ eqb-turned a b = ⊎-elim (λ (h : a < b). off (λ e. omega arith) (λ e. omega 
     on e = rw e refl
 
 -- a transmission conflicts with another if the other's columns of its sender or of its receiver say so
-module _ (rows : List ℕ) where
-  conflict-parts : (t u : Transmission) → Within rows t → Within rows u → conflict (disturbsIn rows) t u ≡ (sending rows u (t .sender .0) || receiving rows u (t .receiver .0))
-  unfolding conflict meet sending ending receiving
-  conflict-parts t u p q =
+module _ (rows heard : List ℕ) where
+  conflict-parts :
+      (t u : Transmission)
+      → Within rows t
+      → Within rows u
+      → Hears rows heard (t .sender .0)
+      → conflict (disturbsIn rows) t u ≡ (sending heard u (t .sender .0) || receiving rows u (t .receiver .0))
+  unfolding conflict meet sending receiving
+  conflict-parts t u p q hears =
       let a : ℕ = t .sender .0 in
       let b : ℕ = t .receiver .0 in
       let v : ℕ = u .sender .0 in
@@ -58,16 +63,21 @@ module _ (rows : List ℕ) where
         eqb-turned a w,
         eqb-turned b v,
         eqb-turned b w,
-        lt-ltb a (min mostNodes (length rows / 8)) (omega (arith, p .sender .numbered, p .sender .row)),
+        hears w (q .receiver .numbered),
       )
       (reorder (eqb v a) (eqb w a) (eqb v b) (eqb w b) (disturbsIn rows v b) (disturbsIn rows a w))
 
-  module _ (h columns : List ℕ) (short : length h ≤ stepBytes * mostSteps) (c : Columns rows h (stepsIn h) columns) (all : AllWithin rows h) where
-    pub marked-conflict : (t : Transmission) (b : ℕ) → Within rows t → b < stepsIn h → markedAt columns t b ≡ conflict (disturbsIn rows) t (fromEnd h b)
+  module _ (h columns : List ℕ) (short : length h ≤ stepBytes * mostSteps) (c : Columns rows heard h (stepsIn h) columns) (all : AllWithin rows h) where
+    pub marked-conflict :
+        (t : Transmission) (b : ℕ)
+        → Within rows t
+        → Hears rows heard (t .sender .0)
+        → b < stepsIn h
+        → markedAt columns t b ≡ conflict (disturbsIn rows) t (fromEnd h b)
     unfolding markedAt
-    marked-conflict t b p l =
+    marked-conflict t b p hears l =
         rw (c .sent (t .sender .0) b (p .sender .numbered), c .received (t .receiver .0) b (p .receiver .numbered) (omega arith), lt-ltb b (stepsIn h) l)
-        (sym (conflict-parts t (fromEnd h b) p (all (stepsIn h - suc b) (omega arith))))
+        (sym (conflict-parts t (fromEnd h b) p (all (stepsIn h - suc b) (omega arith)) hears))
 
     pub columns-narrow : Narrow (stepsIn h) columns
     unfolding markedAt
@@ -75,17 +85,18 @@ module _ (rows : List ℕ) where
 
 -- THE FIGURE BY COLUMNS
 pub figure-by-columns :
-    (rows l h columns : List ℕ)
+    (rows heard l h columns : List ℕ)
     → length l ≤ stepBytes * mostSteps
-    → Columns rows l (stepsIn l) columns
+    → Columns rows heard l (stepsIn l) columns
     → AllWithin rows l
     → AllWithin rows h
+    → ((j : ℕ) → j < stepsIn h → Hears rows heard (stepIn h j .sender .0))
     → worstPath (matrixBy columns (stepsIn l) h) (stepsIn l) (stepsIn h) ≡ worstPath (marksOf rows l h) (stepsIn l) (stepsIn h)
-figure-by-columns rows l h columns short c all other =
+figure-by-columns rows heard l h columns short c all other hears =
     let n : ℕ = stepsIn l in
     paths-agree (matrixBy columns n h) (marksOf rows l h) n (stepsIn h)
     (λ i j p q.
     let back : n - suc (n - suc i) ≡ i = omega arith in
-    marked-conflict rows l columns short c all (stepIn h j) (n - suc i) (other j (omega arith)) (omega arith)
+    marked-conflict rows heard l columns short c all (stepIn h j) (n - suc i) (other j (omega arith)) (hears j q) (omega arith)
     ∙ ap (λ (k : ℕ). conflict (disturbsIn rows) (stepIn h j) (stepIn l k)) back
     ∙ conflict-symmetric (disturbsIn rows) (stepIn h j) (stepIn l i))

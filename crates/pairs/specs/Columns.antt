@@ -8,7 +8,6 @@ use lib.Dec.{eqb, ltb}
 use lib.Bits.{bitOr}
 use lib.ListN.{length, getD}
 use Rattle.trade.specs.Limits.{mostNodes, mostSteps, rowBytes}
-use Rattle.trade.specs.First.{some}
 use Rattle.trade.specs.Bytes.{bit}
 use Rattle.trade.specs.Facts.{disturbsIn, stepIn}
 use Rattle.trade.specs.Conflict.{conflict}
@@ -34,17 +33,27 @@ nodesIn rows = min mostNodes (length rows / rowBytes)
 abbrev pub fromEnd : List ℕ → ℕ → Transmission
 fromEnd plan b = stepIn plan (stepsIn plan - suc b)
 
+-- x is one of the nodes of a transmission
+unfoldable pub ending : Transmission → ℕ → Bool
+ending u x = eqb (u .sender .0) x || eqb (u .receiver .0) x
+
+-- for each node, those of a set that disturb it
+pub record Heard (rows : List ℕ) (nodes : ℕ) (before after : List ℕ) : Type 0 where
+  pub size : length after ≡ length before
+  pub bits : (y x : ℕ) → y < mostNodes → bit (getD after y 0) x ≡ (bit nodes x && disturbsIn rows x y)
+  pub others : (y : ℕ) → mostNodes ≤ y → getD after y 0 ≡ getD before y 0
+
+-- a table says of a node whom it disturbs
+abbrev pub Hears : List ℕ → List ℕ → ℕ → Type 0
+Hears rows heard x = (y : ℕ) → y < mostNodes → bit (getD heard y 0) x ≡ disturbsIn rows x y
+
 -- what node x receives conflicts with a transmission if x is one of its nodes, or its sender disturbs x
 unfoldable pub receiving : List ℕ → Transmission → ℕ → Bool
 receiving rows u x = eqb (u .sender .0) x || eqb (u .receiver .0) x || disturbsIn rows (u .sender .0) x
 
--- x is one of its nodes
-unfoldable pub ending : Transmission → ℕ → Bool
-ending u x = eqb (u .sender .0) x || eqb (u .receiver .0) x
-
--- what node x sends conflicts with it if x is one of its nodes, or x has a row and disturbs its receiver
+-- what node x sends conflicts with it if x is one of its nodes, or is among those that its receiver hears
 unfoldable pub sending : List ℕ → Transmission → ℕ → Bool
-sending rows u x = ending u x || (ltb x (nodesIn rows) && disturbsIn rows x (u .receiver .0))
+sending heard u x = eqb (u .sender .0) x || eqb (u .receiver .0) x || bit (getD heard (u .receiver .0) 0) x
 
 -- the columns of a plan, a number for each node: its lower bits are the steps that conflict with what the node receives, the others those
 -- that conflict with what it sends; each by its test, of the last k steps
@@ -52,8 +61,8 @@ pub record ColumnsBy (receives sends : Transmission → ℕ → Bool) (plan : Li
   pub received : (x b : ℕ) → x < mostNodes → b < mostSteps → bit (getD columns x 0) b ≡ (ltb b k && receives (fromEnd plan b) x)
   pub sent : (x b : ℕ) → x < mostNodes → bit (getD columns x 0) (mostSteps + b) ≡ (ltb b k && sends (fromEnd plan b) x)
 
-abbrev pub Columns : List ℕ → List ℕ → ℕ → List ℕ → Type 0
-Columns rows = ColumnsBy (receiving rows) (sending rows)
+abbrev pub Columns : List ℕ → List ℕ → List ℕ → ℕ → List ℕ → Type 0
+Columns rows heard = ColumnsBy (receiving rows) (sending heard)
 
 -- a transmission conflicts, by the columns, with step b from the end
 unfoldable pub markedAt : List ℕ → Transmission → ℕ → Bool
@@ -68,35 +77,18 @@ Narrow n columns =
 abbrev pub matrixBy : List ℕ → ℕ → List ℕ → Matrix
 matrixBy columns n h i j = markedAt columns (stepIn h j) (n - suc i)
 
--- one step noted in the columns, the b-th from the end, but for those that disturb its receiver
-pub record Noted (rows : List ℕ) (u : Transmission) (b : ℕ) (before after : List ℕ) : Type 0 where
+-- one step noted in the columns, the b-th from the end
+pub record Noted (rows heard : List ℕ) (u : Transmission) (b : ℕ) (before after : List ℕ) : Type 0 where
   pub size : length after ≡ length before
   pub bits :
       (x y : ℕ)
       → x < mostNodes
       → bit (getD after x 0) y
-      ≡ (bit (getD before x 0) y || (eqb b y && receiving rows u x) || (eqb (mostSteps + b) y && ending u x))
-  pub others : (x : ℕ) → mostNodes ≤ x → getD after x 0 ≡ getD before x 0
-
--- and with its receiver
-pub record Listed (u : Transmission) (b : ℕ) (before after : List ℕ) : Type 0 where
-  pub size : length after ≡ length before
-  pub bits : (y k : ℕ) → bit (getD after y 0) k ≡ (bit (getD before y 0) k || (eqb b k && eqb (u .receiver .0) y))
-
--- of each node that has a row, the steps that the nodes of a set which it disturbs receive, put into the upper half
-pub record Sent (rows received : List ℕ) (receivers : ℕ) (before after : List ℕ) : Type 0 where
-  pub size : length after ≡ length before
-  pub lower : (x b : ℕ) → b < mostSteps → bit (getD after x 0) b ≡ bit (getD before x 0) b
-  pub upper :
-      (x b : ℕ)
-      → x < mostNodes
-      → bit (getD after x 0) (mostSteps + b)
-      ≡ (bit (getD before x 0) (mostSteps + b)
-      || (ltb x (nodesIn rows) && some (λ y. (disturbsIn rows x y && bit receivers y) && bit (getD received y 0) b) mostNodes))
+      ≡ (bit (getD before x 0) y || (eqb b y && receiving rows u x) || (eqb (mostSteps + b) y && sending heard u x))
   pub others : (x : ℕ) → mostNodes ≤ x → getD after x 0 ≡ getD before x 0
 
 -- the columns of a whole plan. What lies beyond them stays
-pub record Gathered (rows plan before after : List ℕ) : Type 0 where
+pub record Gathered (rows heard plan before after : List ℕ) : Type 0 where
   pub size : length after ≡ length before
-  pub columns : Columns rows plan (stepsIn plan) after
+  pub columns : Columns rows heard plan (stepsIn plan) after
   pub others : (x : ℕ) → mostNodes ≤ x → getD after x 0 ≡ getD before x 0

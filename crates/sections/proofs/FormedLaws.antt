@@ -35,7 +35,7 @@ module _
               let r = sound (factsOf s) i (givenFirst-passed 5 (badRecord (factsOf s)) (s .flows) six i h) in
               record {
                 period = (r .period .least, r .period .most);
-                deadline = r .deadline .most;
+                deadline = (r .deadline .least, r .deadline .most);
                 len = (r .len .least, r .len .most);
               };
           planned = steps;

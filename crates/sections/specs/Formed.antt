@@ -12,7 +12,7 @@ use Rattle.plans.specs.Plan.{planIn}
 -- the period, the deadline and the plan's length of record i are in their ranges
 pub record InRange (records : List ℕ) (i : ℕ) : Type 0 where
   pub period : (1 ≤ field records i 2) × (field records i 2 ≤ mostPeriod)
-  pub deadline : field records i 3 ≤ field records i 2
+  pub deadline : (1 ≤ field records i 3) × (field records i 3 ≤ field records i 2)
   pub len : (1 ≤ field records i 4) × (field records i 4 ≤ mostSteps)
 
 -- the first k flows: their records and plans are there, their fields in range, and their steps lie in the network

@@ -22,18 +22,18 @@ use Rattle.bounds.proofs.bounds.bound_at.Tie as tie
 figure :
     (c : tie.After-figures-at)
     → (h : ℕ)
-    → h < c .before .before .before .before .before .args .l
+    → h < c .before .before .before .before .before .before .args .l
     → getD (c .figures-at .result) h 0
-    ≡ interference (factsIn 0 0 (now (c .before .before .before .before .before .args .rows)) (now (c .before .before .before .before .before .args .records)) (now (c .before .before .before .before .before .args .steps))) (c .before .before .before .before .before .args .l) h
+    ≡ interference (factsIn 0 0 (now (c .before .before .before .before .before .before .args .rows)) (now (c .before .before .before .before .before .before .args .records)) (now (c .before .before .before .before .before .before .args .steps))) (c .before .before .before .before .before .before .args .l) h
 figure c h l =
-    let a = c .before .before .before .before .before .args in
+    let a = c .before .before .before .before .before .before .args in
     rw (c .figures-at .ensures)
     (filled-at mostFlows (interference (factsIn 0 0 (now (a .rows)) (now (a .records)) (now (a .steps))) (a .l)) (a .l) h l)
 
 smallest-requires : tie.Need-smallest-requires
 unfolding flowIn
 smallest-requires c κs =
-    let s = c .before .before .before .before .before .before .before .before in
+    let s = c .before .before .before .before .before .before .before .before .before in
     let a = s .args in
     let f = s .pre .0 in
     let own = f .fields (a .l) (omega arith) in
@@ -51,17 +51,17 @@ smallest-requires c κs =
               f .fields h (omega arith) .len .1,
             );
         period = λ h l. rw (s .pre .1 .0 h l) (f .fields h (omega arith) .period);
-        carry = λ h l. s .pre .1 .1 h l;
+        carry = λ h l. s .pre .1 .1 .0 h l;
       },
       omega (arith, len, own .len .0),
       omega (arith, len, own .len .1),
-      omega (arith, deadline, own .deadline, own .period .1),
+      omega (arith, deadline, own .deadline .1, own .period .1),
     )
 
 returns : tie.Need-returns
 unfolding flowIn factsOf
 returns c =
-    let s = c .before .before .before .before .before .before .before .before .before in
+    let s = c .before .before .before .before .before .before .before .before .before .before in
     let a = s .args in
     let f : Facts = factsIn 0 0 (now (a .rows)) (now (a .records)) (now (a .steps)) in
     let w = c .before .before .before .before .before .record-at .ensures in

@@ -1,6 +1,6 @@
 -- `bounds::bounds::bounds_of` meets its contract: each flow passed has its bound, which stands in the array. Assumes nothing.
 use Prim.Native.Nat.{ℕ, _+_, _-_, _≤_, _<_}
-use mathlib.Core.Path.{_≡_, sym, _∙_, ap, ap₂}
+use mathlib.Core.Path.{_≡_, refl, sym, _∙_, ap, ap₂}
 use mathlib.Core.Bool.{false}
 use mathlib.Core.List.{List}
 use borrow.Author.Count.{below-more}
@@ -20,12 +20,14 @@ use Rattle.bounds.specs.Bounds.{refusedBy}
 use Rattle.trade.proofs.Alike.{Alike, alike-counts, byInterference-alike, bound-prefix}
 use Rattle.sections.proofs.FormedLaws.{formed-less}
 use Rattle.bounds.proofs.BoundsLaws.{boundless-over, boundless-in, bounded-refused, bounded-done}
+use Rattle.pairs.proofs.SpreadLaws.{zeros}
+use Rattle.figures.proofs.FiguresLaws.{all-heard}
 use Rattle.figures.proofs.Padded.{filled, filled-none, filled-more, filled-at}
 use Rattle.bounds.proofs.bounds.bounds_of.Statement.{statement}
 use Rattle.bounds.proofs.bounds.bounds_of.Tie as tie
 
 abbrev Inv-loop : tie.InvT-loop
-Inv-loop flows rows records steps bounds₀ periods₀ carries₀ l₀ bounds periods carries l =
+Inv-loop flows rows records steps heard bounds₀ periods₀ carries₀ l₀ bounds periods carries l =
     (l ≤ flows)
     × (bounds ≡ filled mostFlows (bound (factsIn 0 flows rows records steps)) l)
     × (periods ≡ filled mostFlows (λ h. field records h 2) l)
@@ -33,11 +35,14 @@ Inv-loop flows rows records steps bounds₀ periods₀ carries₀ l₀ bounds pe
     × ((k : ℕ) → k < l → boundless (factsIn 0 flows rows records steps) k ≡ false)
 
 abbrev μ-loop : tie.MeasureT-loop
-μ-loop flows rows records steps bounds₀ periods₀ carries₀ l₀ bounds periods carries l = flows - l
+μ-loop flows rows records steps heard bounds₀ periods₀ carries₀ l₀ bounds periods carries l = flows - l
+
+hear-above-requires : tie.Need-hear-above-requires Inv-loop μ-loop
+hear-above-requires c κs = (c .before .before .before .before .pre, (refl, λ y h. zeros 64 y))
 
 loop-holds : tie.Need-loop-holds Inv-loop μ-loop
 loop-holds c =
-    let s = c .before .before .before in
+    let s = c .before .before .before .before .before .before in
     let a = s .args in
     let f : Facts = factsIn 0 (a .flows) (now (a .rows)) (now (a .records)) (now (a .steps)) in (
       omega arith,
@@ -48,47 +53,56 @@ loop-holds c =
     )
 
 record-at-requires : tie.Need-record-at-requires Inv-loop μ-loop
-record-at-requires c κs = omega (arith, c .before .before .before .before .before .pre .recorded)
+record-at-requires c κs = omega (arith, c .before .before .before .before .before .before .before .before .pre .recorded)
+
+slice-aggregate-bound-at : tie.Need-slice-aggregate-bound-at Inv-loop μ-loop
+slice-aggregate-bound-at c = sym (c .before .before .before .before .before .hear-above .ensures .size)
 
 bound-at-requires : tie.Need-bound-at-requires Inv-loop μ-loop
 bound-at-requires c κs =
-    let s = c .before .before .before .before .before .before .before .before in
+    let s = c .before .before .before .before .before .before .before .before .before .before .before .before in
     let a = s .args in
-    let loop = c .before .before .before .before .loop in
+    let loop = c .before .before .before .before .before .loop in
     let formed = s .pre in
     let records : List ℕ = now (a .records) in (
       formed-less (loop .l + 1) (a .flows) (now (a .rows)) records (now (a .steps)) (omega arith) formed,
       (
         λ h b. rw (loop .inv .2) (filled-at mostFlows (λ (k : ℕ). field records k 2) (loop .l) h b),
-        λ h b.
-            rw (loop .inv .3, filled-at mostFlows (λ (k : ℕ). field records k 3) (loop .l) h b)
-            (omega (arith, formed .fields h (omega arith) .deadline, formed .fields h (omega arith) .period .1)),
+        (
+          λ h b.
+              rw (loop .inv .3, filled-at mostFlows (λ (k : ℕ). field records k 3) (loop .l) h b)
+              (formed .fields h (omega arith) .deadline .0, omega (arith, formed .fields h (omega arith) .deadline .1, formed .fields h (omega arith) .period .1)),
+          (
+            omega (arith, c .before .before .before .before .before .before .before .hear-above .ensures .size),
+            all-heard (a .flows) (loop .l) (now (a .rows)) records (now (a .steps)) _ formed (omega arith) (c .before .before .before .before .before .before .before .hear-above .ensures),
+          ),
+        ),
       ),
     )
 
 -- what the record says, and that the flow's deadline and period are in range
 fields :
     (c : tie.After-record-at Inv-loop μ-loop)
-    → (c .record-at .result .period ≡ field (now (c .before .before .before .before .before .before .args .records)) (c .before .before .loop .l) 2)
-    × (c .record-at .result .deadline ≡ field (now (c .before .before .before .before .before .before .args .records)) (c .before .before .loop .l) 3)
+    → (c .record-at .result .period ≡ field (now (c .before .before .before .before .before .before .before .before .before .args .records)) (c .before .before .loop .l) 2)
+    × (c .record-at .result .deadline ≡ field (now (c .before .before .before .before .before .before .before .before .before .args .records)) (c .before .before .loop .l) 3)
     × (c .record-at .result .period ≤ mostPeriod)
     × (c .record-at .result .deadline ≤ mostPeriod)
 unfolding flowIn
 fields c =
     let period = ap (λ (w : Flow). w .period) (c .record-at .ensures) in
     let deadline = ap (λ (w : Flow). w .deadline) (c .record-at .ensures) in
-    let range = c .before .before .before .before .before .before .pre .fields (c .before .before .loop .l) (omega arith) in
-    (period, deadline, omega (arith, period, range .period .1), omega (arith, deadline, range .deadline, range .period .1))
+    let range = c .before .before .before .before .before .before .before .before .before .pre .fields (c .before .before .loop .l) (omega arith) in
+    (period, deadline, omega (arith, period, range .period .1), omega (arith, deadline, range .deadline .1, range .period .1))
 
 -- the bound that was found is the flow's
 bounded :
     (c : tie.After-bound-at Inv-loop μ-loop)
     → c .bound-at .result
-    ≡ bound (factsIn 0 (c .before .before .before .before .before .before .before .before .before .args .flows) (now (c .before .before .before .before .before .before .before .before .before .args .rows)) (now (c .before .before .before .before .before .before .before .before .before .args .records)) (now (c .before .before .before .before .before .before .before .before .before .args .steps))) (c .before .before .before .before .before .loop .l)
+    ≡ bound (factsIn 0 (c .before .before .before .before .before .before .before .before .before .before .before .before .before .args .flows) (now (c .before .before .before .before .before .before .before .before .before .before .before .before .before .args .rows)) (now (c .before .before .before .before .before .before .before .before .before .before .before .before .before .args .records)) (now (c .before .before .before .before .before .before .before .before .before .before .before .before .before .args .steps))) (c .before .before .before .before .before .before .loop .l)
 unfolding factsOf
 bounded c =
-    let a = c .before .before .before .before .before .before .before .before .before .args in
-    let loop = c .before .before .before .before .before .loop in
+    let a = c .before .before .before .before .before .before .before .before .before .before .before .before .before .args in
+    let loop = c .before .before .before .before .before .before .loop in
     let f : Facts = factsIn 0 0 (now (a .rows)) (now (a .records)) (now (a .steps)) in
     let g : Facts = factsIn 0 (a .flows) (now (a .rows)) (now (a .records)) (now (a .steps)) in
     let carry : ℕ → ℕ = λ h. getD (loop .carries) h 0 in
@@ -100,7 +114,7 @@ bounded c =
     (loop .l) (omega arith)
 
 cast-if1 : tie.Need-cast-if1 Inv-loop μ-loop
-cast-if1 c = omega (arith, fields (c .before .before .before .before))
+cast-if1 c = omega (arith, fields (c .before .before .before .before .before))
 
 refused-requires : tie.Need-refused-requires Inv-loop μ-loop
 refused-requires c κs = tt
@@ -111,51 +125,51 @@ refused-requires-2 c κs = tt
 returns : tie.Need-returns Inv-loop μ-loop
 unfolding factsOf
 returns c =
-    let a = c .before .before .before .before .before .before .before .before .before .before .before .before .before .args in
-    let loop = c .before .before .before .before .before .before .before .before .before .loop in
+    let a = c .before .before .before .before .before .before .before .before .before .before .before .before .before .before .before .before .before .args in
+    let loop = c .before .before .before .before .before .before .before .before .before .before .loop in
     let f : Facts = factsIn 0 (a .flows) (now (a .rows)) (now (a .records)) (now (a .steps)) in
     let over : field (now (a .records)) (loop .l) 3 < bound f (loop .l) =
-    rw (← fields (c .before .before .before .before .before .before .before) .1, ← bounded (c .before .before .before .before)) (c .before .before .if1 .taken) in
+    rw (← fields (c .before .before .before .before .before .before .before .before) .1, ← bounded (c .before .before .before .before)) (c .before .before .if1 .taken) in
     c .refused2 .ensures
     ∙ ap refusedBy (c .before .refused .ensures)
     ∙ sym (bounded-refused f (loop .l) (omega arith) (loop .inv .4) (boundless-over f (measure f) (loop .l) over))
 
 cast-bounds : tie.Need-cast-bounds Inv-loop μ-loop
-cast-bounds c = omega (arith, fields (c .before .before .before .before .before))
+cast-bounds c = omega (arith, fields (c .before .before .before .before .before .before))
 
 mul-bounds : tie.Need-mul-bounds Inv-loop μ-loop
-mul-bounds c = omega (arith, c .before .before .before .before .before .before .before .before .before .before .before .pre .most)
+mul-bounds c = omega (arith, c .before .before .before .before .before .before .before .before .before .before .before .before .before .before .before .pre .most)
 
 array-write-bounds : tie.Need-array-write-bounds Inv-loop μ-loop
-array-write-bounds c = omega (arith, c .before .before .before .before .before .before .before .before .before .before .before .pre .most)
+array-write-bounds c = omega (arith, c .before .before .before .before .before .before .before .before .before .before .before .before .before .before .before .pre .most)
 
 mul-periods : tie.Need-mul-periods Inv-loop μ-loop
-mul-periods c = omega (arith, c .before .before .before .before .before .before .before .before .before .before .before .pre .most)
+mul-periods c = omega (arith, c .before .before .before .before .before .before .before .before .before .before .before .before .before .before .before .pre .most)
 
 array-write-periods : tie.Need-array-write-periods Inv-loop μ-loop
-array-write-periods c = omega (arith, c .before .before .before .before .before .before .before .before .before .before .before .pre .most)
+array-write-periods c = omega (arith, c .before .before .before .before .before .before .before .before .before .before .before .before .before .before .before .pre .most)
 
 mul-carries : tie.Need-mul-carries Inv-loop μ-loop
-mul-carries c = omega (arith, c .before .before .before .before .before .before .before .before .before .before .before .pre .most)
+mul-carries c = omega (arith, c .before .before .before .before .before .before .before .before .before .before .before .before .before .before .before .pre .most)
 
 array-write-carries : tie.Need-array-write-carries Inv-loop μ-loop
-array-write-carries c = omega (arith, c .before .before .before .before .before .before .before .before .before .before .before .pre .most)
+array-write-carries c = omega (arith, c .before .before .before .before .before .before .before .before .before .before .before .before .before .before .before .pre .most)
 
 add-l : tie.Need-add-l Inv-loop μ-loop
-add-l c = omega (arith, c .before .before .before .before .before .before .before .before .before .before .before .pre .most)
+add-l c = omega (arith, c .before .before .before .before .before .before .before .before .before .before .before .before .before .before .before .pre .most)
 
 loop-again : tie.Need-loop-again Inv-loop μ-loop
 unfolding factsOf
 loop-again c =
-    let s = c .before .before .before .before .before .before .before .before .before .before .before in
+    let s = c .before .before .before .before .before .before .before .before .before .before .before .before .before .before .before in
     let a = s .args in
-    let loop = c .before .before .before .before .before .before .before .loop in
+    let loop = c .before .before .before .before .before .before .before .before .loop in
     let f : Facts = factsIn 0 (a .flows) (now (a .rows)) (now (a .records)) (now (a .steps)) in
-    let said = fields (c .before .before .before .before .before) in
+    let said = fields (c .before .before .before .before .before .before) in
     let within : bound f (loop .l) ≤ field (now (a .records)) (loop .l) 3 =
     rw (← said .1, ← bounded (c .before .before)) (c .if1 .left) in
-    let room : loop .l < mostFlows = lt-of-lt-of-le (c .before .before .before .before .before .before .loop-test .taken) (s .pre .most) in (
-      rw (add-one (loop .l)) (c .before .before .before .before .before .before .loop-test .taken),
+    let room : loop .l < mostFlows = lt-of-lt-of-le (c .before .before .before .before .before .before .before .loop-test .taken) (s .pre .most) in (
+      rw (add-one (loop .l)) (c .before .before .before .before .before .before .before .loop-test .taken),
       rw (loop .inv .1, bounded (c .before .before)) (filled-more mostFlows (bound f) (loop .l) room),
       rw (loop .inv .2, said .0) (filled-more mostFlows (λ (h : ℕ). field (now (a .records)) h 2) (loop .l) room),
       rw (loop .inv .3, said .1) (filled-more mostFlows (λ (h : ℕ). field (now (a .records)) h 3) (loop .l) room),
@@ -168,7 +182,7 @@ done-requires c κs = tt
 returns-2 : tie.Need-returns-2 Inv-loop μ-loop
 unfolding factsOf boundsBy
 returns-2 c =
-    let a = c .before .before .before .before .before .before .args in
+    let a = c .before .before .before .before .before .before .before .before .before .args in
     let loop = c .before .before .loop in
     let f : Facts = factsIn 0 (a .flows) (now (a .rows)) (now (a .records)) (now (a .steps)) in
     let e : loop .l ≡ a .flows = omega arith in
@@ -178,6 +192,6 @@ returns-2 c =
 
 pub bounds-of-spec : {M : Type 1} → statement M
 bounds-of-spec =
-    tie.close (tie.spec Inv-loop μ-loop loop-holds record-at-requires bound-at-requires cast-if1 refused-requires
+    tie.close (tie.spec Inv-loop μ-loop (λ c. refl) hear-above-requires loop-holds record-at-requires slice-aggregate-bound-at bound-at-requires cast-if1 refused-requires
     refused-requires-2 returns cast-bounds mul-bounds array-write-bounds mul-periods array-write-periods
     mul-carries array-write-carries add-l (λ c. omega arith) loop-again done-requires returns-2)

@@ -33,7 +33,7 @@ loop-holds c = (omega arith, omega arith, omega arith)
 
 -- what the arrays hold of a flow above fits
 cast-instances : tie.Need-cast-instances Inv-loop μ-loop
-cast-instances c = record { fits = omega (arith, c .before .before .before .pre .0 .carry (c .before .before .loop .h) (omega arith)) }
+cast-instances c = record { fits = omega (arith, c .before .before .before .pre .0 .carry (c .before .before .loop .h) (omega arith) .1) }
 
 cast-instances-2 : tie.Need-cast-instances-2 Inv-loop μ-loop
 cast-instances-2 c = record { fits = omega (arith, c .before .before .before .before .pre .0 .period (c .before .before .before .loop .h) (omega arith) .1) }
@@ -45,7 +45,8 @@ instances-requires c κs =
     let h = c .before .before .before .loop .h in (
       s .pre .2,
       s .pre .3,
-      t .carry h (omega arith),
+      t .carry h (omega arith) .0,
+      t .carry h (omega arith) .1,
       t .period h (omega arith) .0,
       t .period h (omega arith) .1,
     )

@@ -25,18 +25,18 @@ use Rattle.figures.proofs.figures.figures_at.Tie as tie
 
 returns : tie.Need-returns
 returns c =
-    let none : c .before .before .before .before .args .l ≡ 0 = c .if1 .taken in
+    let none : c .before .before .before .before .before .args .l ≡ 0 = c .if1 .taken in
     rw none (sym (filled-none mostFlows _))
 
 single-requires : tie.Need-single-requires
 single-requires c κs =
-    let s = c .before .before .before .before .before .before in
+    let s = c .before .before .before .before .before .before .before in
     let a = s .args in
-    rw (c .before .plan-at .ensures) (length-plan (a .l + 1) (now (a .rows)) (now (a .records)) (now (a .steps)) (s .pre) (a .l) (omega arith))
+    rw (c .before .plan-at .ensures) (length-plan (a .l + 1) (now (a .rows)) (now (a .records)) (now (a .steps)) (s .pre .0) (a .l) (omega arith))
 
 -- the plan of the flow, and the array that has its steps once each
 abbrev own : tie.After-plan-part → List ℕ
-own c = planAt (now (c .before .before .before .before .before .before .before .before .before .before .args .records)) (now (c .before .before .before .before .before .before .before .before .before .before .args .steps)) (c .before .before .before .before .before .before .before .before .before .before .args .l)
+own c = planAt (now (c .before .before .before .before .before .before .before .before .before .before .before .args .records)) (now (c .before .before .before .before .before .before .before .before .before .before .before .args .steps)) (c .before .before .before .before .before .before .before .before .before .before .before .args .l)
 
 abbrev once : tie.After-plan-part → List ℕ
 once c = c .before .before .before .single .last .1 .0
@@ -55,9 +55,9 @@ is-part c = c .plan-part .ensures ∙ ap (planIn (once c) 0) (is-width c)
 
 own-short : (c : tie.After-plan-part) → length (own c) ≤ 64
 own-short c =
-    let s = c .before .before .before .before .before .before .before .before .before .before in
+    let s = c .before .before .before .before .before .before .before .before .before .before .before in
     let a = s .args in
-    length-plan (a .l + 1) (now (a .rows)) (now (a .records)) (now (a .steps)) (s .pre) (a .l) (omega arith)
+    length-plan (a .l + 1) (now (a .rows)) (now (a .records)) (now (a .steps)) (s .pre .0) (a .l) (omega arith)
 
 own-room : (c : tie.After-plan-part) → length (own c) ≤ length (once c)
 own-room c = omega (arith, own-short c, is-once c .size)
@@ -67,52 +67,52 @@ abbrev part : tie.After-plan-part → List ℕ
 part c = planIn (once c) 0 (singles (own c) (stepsIn (own c)))
 
 part-short : (c : tie.After-plan-part) → length (part c) ≤ 64
-part-short c = omega (arith, once-length (now (c .before .before .before .before .before .before .before .before .before .before .args .rows)) (own c) _ (once c) (own-room c) (is-once c), own-short c)
+part-short c = omega (arith, once-length (now (c .before .before .before .before .before .before .before .before .before .before .before .args .rows)) (own c) _ (once c) (own-room c) (is-once c), own-short c)
 
-part-within : (c : tie.After-plan-part) → AllWithin (now (c .before .before .before .before .before .before .before .before .before .before .args .rows)) (part c)
+part-within : (c : tie.After-plan-part) → AllWithin (now (c .before .before .before .before .before .before .before .before .before .before .before .args .rows)) (part c)
 part-within c =
-    let s = c .before .before .before .before .before .before .before .before .before .before in
+    let s = c .before .before .before .before .before .before .before .before .before .before .before in
     let a = s .args in
     once-within (now (a .rows)) (own c) _ (once c) (own-room c) (is-once c)
-    (plan-within (a .l + 1) (now (a .rows)) (now (a .records)) (now (a .steps)) (s .pre) (a .l) (omega arith))
+    (plan-within (a .l + 1) (now (a .rows)) (now (a .records)) (now (a .steps)) (s .pre .0) (a .l) (omega arith))
 
 gather-requires : tie.Need-gather-requires
 gather-requires c κs =
-    (rw (is-part (c .before)) (part-short (c .before)), rw (is-part (c .before)) (part-within (c .before)), omega arith, λ x h. zeros 64 x)
+    (rw (is-part (c .before)) (part-short (c .before)), rw (is-part (c .before)) (part-within (c .before)), c .before .before .before .before .before .before .before .before .before .before .before .before .pre .1 .0, omega arith, λ x h. zeros 64 x)
 
 figures-by-requires : tie.Need-figures-by-requires
 figures-by-requires c κs =
-    let s = c .before .before .before .before .before .before .before .before .before .before .before .before .before .before in
+    let s = c .before .before .before .before .before .before .before .before .before .before .before .before .before .before .before in
     let a = s .args in
     let p = c .before .before .before .before in
     let gathered = c .before .before .gather .ensures in
     let width = is-width p in (
       (
-        omega (arith, s .pre .most),
-        omega (arith, s .pre .recorded),
+        omega (arith, s .pre .0 .most),
+        omega (arith, s .pre .0 .recorded),
         omega (arith, gathered .size),
         omega (arith, width, singles-most (own p) (stepsIn (own p)), own-short p),
-        subst (λ (n : ℕ). Narrow n (c .before .before .gather .last .1 .1 .0))
+        subst (λ (n : ℕ). Narrow n (c .before .before .gather .last .1 .1 .1 .0))
             (once-steps (now (a .rows)) (own p) _ (once p) (own-room p) (is-once p) ∙ sym width)
-            (columns-narrow (now (a .rows)) (part p) (c .before .before .gather .last .1 .1 .0)
+            (columns-narrow (now (a .rows)) (now (a .heard)) (part p) (c .before .before .gather .last .1 .1 .1 .0)
             (part-short p) (rw (is-part p) at (gathered .columns)) (part-within p)),
       ),
-      λ h b. plan-asked (a .l + 1) (now (a .rows)) (now (a .records)) (now (a .steps)) (s .pre) h (omega arith),
+      λ h b. plan-asked (a .l + 1) (now (a .rows)) (now (a .records)) (now (a .steps)) (s .pre .0) h (omega arith),
     )
 
 returns-2 : tie.Need-returns-2
 returns-2 c =
-    let s = c .before .before .before .before .before .before .before .before .before .before .before .before .before .before .before in
+    let s = c .before .before .before .before .before .before .before .before .before .before .before .before .before .before .before .before in
     let a = s .args in
     let p = c .before .before .before .before .before in
-    let columns : List ℕ = c .before .before .before .gather .last .1 .1 .0 in
+    let columns : List ℕ = c .before .before .before .gather .last .1 .1 .1 .0 in
     c .figures-by .ensures
     ∙ filled-same mostFlows (λ (h : ℕ). figureBy columns (c .before .before .before .before .before .before .before .before .single .result) (planAt (now (a .records)) (now (a .steps)) h))
-    (interference (factsIn 0 0 (now (a .rows)) (now (a .records)) (now (a .steps))) (a .l)) (a .l) (omega (arith, s .pre .most))
+    (interference (factsIn 0 0 (now (a .rows)) (now (a .records)) (now (a .steps))) (a .l)) (a .l) (omega (arith, s .pre .0 .most))
     (λ h b.
     ap (λ (n : ℕ). figureBy columns n (planAt (now (a .records)) (now (a .steps)) h)) (is-width p)
-    ∙ figure-columns (a .l + 1) (now (a .rows)) (now (a .records)) (now (a .steps)) _ (once p) columns (a .l) (s .pre) (omega arith) (own-room p) (is-once p)
-    (rw (is-part p) at (c .before .before .before .gather .ensures .columns)) h (omega arith))
+    ∙ figure-columns (a .l + 1) (now (a .rows)) (now (a .heard)) (now (a .records)) (now (a .steps)) _ (once p) columns (a .l) (s .pre .0) (omega arith) (s .pre .1 .1) (own-room p) (is-once p)
+    (rw (is-part p) at (c .before .before .before .gather .ensures .columns)) h b)
 
 pub figures-at-spec : {M : Type 1} → statement M
 figures-at-spec =

@@ -153,7 +153,7 @@ fn breaks_off(last: &[u8], step: &[u8]) -> u16 {
     u16::from((both(step) != both(last)) & (sender(step) != receiver(last)))
 }
 
-pub fn row_mask(row: &[u8]) -> u64 {
+fn row_mask(row: &[u8]) -> u64 {
     row.try_into().map_or(0, u64::from_le_bytes)
 }
 

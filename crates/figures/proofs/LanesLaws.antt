@@ -1,10 +1,10 @@
 -- Plans laid into lanes: one step more of a plan, one plan more, what the words then hold, and the figures read at the ends. Leans on
 -- RisesLaws. Assumes nothing.
-use Prim.Native.Nat.{ℕ, zero, suc, _+_, _-_, _*_, _/_, _%_, _^_, _≤_, _<_}
-use mathlib.Core.Path.{_≡_, refl, sym, _∙_, ap, ap₂}
-use mathlib.Core.Bool.{Bool, true, false, cond, _&&_, _||_}
+use Prim.Native.Nat.{ℕ, suc, _+_, _-_, _*_, _%_, _^_, _≤_, _<_}
+use mathlib.Core.Path.{_≡_, refl, sym, _∙_, ap}
+use mathlib.Core.Bool.{Bool, true, false, _&&_, _||_}
 use mathlib.Core.List.{List}
-use mathlib.Core.Logic.{_⊎_, ⊎-elim, inl, inr}
+use mathlib.Core.Logic.{_⊎_, ⊎-elim}
 use native.Mathlib.Omega.{arith}
 use lib.Bits.{bitOr}
 use lib.Pow.{pow-pos}
@@ -12,11 +12,11 @@ use lib.Dec.{eqb, ltb}
 use lib.ListN.{length, getD, set, length-set}
 use lib.Seq.{getD-set-same, getD-set-other}
 use borrow.Author.Tests.{eq-eqb, ne-eqb, lt-ltb, le-ltb}
-use Rattle.trade.specs.Limits.{mostNodes, mostSteps, mostId}
+use Rattle.trade.specs.Limits.{mostSteps, mostId}
 use Rattle.trade.specs.Layout.{field}
 use Rattle.trade.specs.Bytes.{bit}
 use Rattle.trade.specs.Facts.{stepIn}
-use Rattle.trade.specs.Interference.{Matrix, worst, worstPath}
+use Rattle.trade.specs.Interference.{Matrix, worstPath}
 use Rattle.trade.proofs.First.{lt-or-ge}
 use Rattle.trade.proofs.Sums.{sum-next}
 use Rattle.nodes.proofs.MaskLaws.{bit-none, bit-or, bit-below, bit-above, bit-past}
@@ -24,7 +24,7 @@ use Rattle.plans.specs.Plan.{stepsIn}
 use Rattle.pairs.specs.Columns.{markedAt, Narrow, matrixBy}
 use Rattle.sections.specs.Formed.{planStart, planAt}
 use Rattle.figures.specs.Figures.{Asked}
-use Rattle.figures.specs.Rises.{laneAt, riseAt, Unmarked, Ends, Marks}
+use Rattle.figures.specs.Rises.{laneAt, riseAt, Ends, Marks}
 use Rattle.figures.specs.Lanes.{laidMark, LaidAt, Laid, GroupedTo, ReadOut}
 use Rattle.figures.specs.declared.rises.Rises.{Rises}
 use Rattle.figures.specs.declared.lanes.Group.{Group}

@@ -9,13 +9,12 @@ use native.Mathlib.Nat.{pow-suc}
 use lib.Dec.{eqb}
 use lib.Bits.{bitOr, bitAnd, bitXor, or-lt}
 use borrow.Author.Tests.{eqb-true, eqb-false, ne-eqb}
-use Rattle.trade.specs.Limits.{mostSteps}
 use Rattle.trade.specs.Bytes.{bit}
 use Rattle.trade.specs.Interference.{Matrix, one, worst}
 use Rattle.trade.proofs.First.{lt-or-ge, bool-cases, not-both}
 use Rattle.trade.proofs.Sums.{largest-below}
 use Rattle.trade.proofs.Interference.{worst-past, worst-row}
-use Rattle.nodes.proofs.MaskLaws.{bit-none, bit-zero, bit-suc, last-cases, bit-or, bit-and, bit-xor, bit-below, bit-past}
+use Rattle.nodes.proofs.MaskLaws.{bit-zero, bit-suc, last-cases, bit-or, bit-and, bit-xor, bit-below}
 use Rattle.figures.specs.Rises.{laneAt, riseAt, before, Says, Low, Unmarked, over, Shifts, Ends}
 use Rattle.figures.specs.declared.rises.Rises.{Rises}
 

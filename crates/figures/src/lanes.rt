@@ -10,7 +10,7 @@ ghost use Rattle.plans.specs.Plan.{stepsIn};
 ghost use Rattle.pairs.specs.Columns.{Narrow};
 ghost use Rattle.sections.specs.Formed.{planStart, planAt};
 ghost use Rattle.figures.specs.Figures.{Asked};
-ghost use Rattle.figures.specs.Rises.{laneAt, riseAt};
+ghost use Rattle.figures.specs.Rises.{laneAt};
 ghost use Rattle.figures.specs.Lanes.{LaidAt, Grouped, ReadOut};
 use crate::rises::Rises;
 use crate::rises::taken;

@@ -5,7 +5,7 @@
 // worked in at all steps of l at once.
 ghost use mathlib.Core.Path.{_≡_};
 ghost use Prim.Native.Nat.{ℕ, _+_, _≤_, _<_};
-ghost use lib.ListN.{length, getD};
+ghost use lib.ListN.{length};
 ghost use Rattle.trade.specs.Limits.{mostSteps};
 ghost use Rattle.trade.specs.Bytes.{bit};
 ghost use Rattle.trade.specs.Interference.{Matrix, worstPath};

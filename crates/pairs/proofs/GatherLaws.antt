@@ -1,6 +1,6 @@
 -- The figure that the columns of a plan l give for a plan h is that of the two plans. Leans on the trade's Interference. Assumes nothing.
-use Prim.Native.Nat.{ℕ, zero, suc, _+_, _-_, _*_, _/_, _≤_, _<_, min, max}
-use mathlib.Core.Path.{_≡_, refl, sym, _∙_, ap, ap₂}
+use Prim.Native.Nat.{ℕ, suc, _-_, _*_, _≤_, _<_}
+use mathlib.Core.Path.{_≡_, refl, sym, _∙_, ap}
 use mathlib.Core.Bool.{Bool, true, false, _||_}
 use mathlib.Core.Logic.{⊎-elim}
 use mathlib.Core.List.{List}
@@ -8,7 +8,7 @@ use native.Mathlib.Omega.{arith}
 use borrow.Author.Tests.{ne-eqb, lt-ltb, le-ltb}
 use lib.Dec.{eqb}
 use lib.ListN.{length}
-use Rattle.trade.specs.Limits.{mostNodes, mostSteps, stepBytes}
+use Rattle.trade.specs.Limits.{mostSteps, stepBytes}
 use Rattle.trade.specs.Facts.{disturbsIn, stepIn}
 use Rattle.trade.specs.Conflict.{meet, conflict}
 use Rattle.trade.specs.Interference.{worstPath}

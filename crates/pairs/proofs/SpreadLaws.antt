@@ -1,11 +1,11 @@
 -- Marks spread over the nodes of sets, and collected from them: the columns of a plan. Leans on Bits and Counts. Assumes nothing.
-use Prim.Native.Nat.{ℕ, suc, _+_, _-_, _*_, _/_, _%_, _^_, _≤_, _<_}
+use Prim.Native.Nat.{ℕ, suc, _+_, _-_, _/_, _%_, _^_, _≤_, _<_}
 use mathlib.Core.Path.{_≡_, refl, sym, _∙_, ap, ap₂}
 use mathlib.Core.Bool.{Bool, true, false, not, cond, _&&_, _||_, or-comm, or-false}
 use mathlib.Core.Logic.{_⊎_, inl, inr, ⊎-elim}
 use mathlib.Core.List.{List}
 use native.Mathlib.Omega.{arith}
-use borrow.Author.Tests.{eqb-true, eqb-false, eq-eqb, ne-eqb, lt-ltb, le-ltb}
+use borrow.Author.Tests.{eqb-true, eq-eqb, ne-eqb, lt-ltb, le-ltb}
 use lib.Bits.{bitOr, bitAnd, or-zero-r}
 use lib.Dec.{eqb, ltb}
 use lib.Pow.{pow-pos, shr-shr, split}
@@ -13,14 +13,14 @@ use native.Mathlib.Nat.{mod-lt}
 use lib.ListN.{length, getD, set, replicate, length-set, length-replicate, getD-replicate, List·getD-eq-default}
 use lib.Seq.{getD-set-same, getD-set-other}
 use Rattle.trade.specs.First.{some}
-use Rattle.trade.specs.Bytes.{byte, bit}
+use Rattle.trade.specs.Bytes.{bit}
 use Rattle.trade.specs.Limits.{mostNodes, mostSteps}
 use Rattle.trade.specs.Facts.{disturbsIn}
 use Rattle.trade.specs.declared.node.Transmission.{Transmission}
-use Rattle.trade.proofs.First.{lt-or-ge, bool-cases, not-both, some-true, some-false, some-intro, some-none, some-cong}
+use Rattle.trade.proofs.First.{lt-or-ge, bool-cases, some-true, some-false, some-intro, some-none}
 use Rattle.nodes.specs.Mask.{only, rowMask}
 use Rattle.pairs.specs.Columns.{Spread, fromEnd, ending, Heard, receiving, sending, Columns, Noted}
-use Rattle.nodes.proofs.MaskLaws.{bit-none, bit-or, bit-and, bit-only, bit-below, bit-above, bit-past, bit-row}
+use Rattle.nodes.proofs.MaskLaws.{bit-none, bit-or, bit-only, bit-below, bit-past}
 use Rattle.nodes.proofs.LowestLaws.{Lowest, and-false, and-true}
 
 -- so many zeros, and zeros past them

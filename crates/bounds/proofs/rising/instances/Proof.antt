@@ -1,9 +1,8 @@
 -- `bounds::rising::instances` meets its contract. Assumes nothing.
-use Prim.Native.Nat.{ℕ, _+_, _-_, _*_, _≤_}
-use mathlib.Core.Path.{_≡_, refl}
+use Prim.Native.Nat.{_+_, _-_}
+use mathlib.Core.Path.{refl}
 use borrow.Author.Needs.{needs}
 use native.Mathlib.Omega.{arith}
-use Rattle.trade.specs.Limits.{mostPeriod}
 use Rattle.trade.specs.Bound.{ceil, instances}
 use Rattle.bounds.proofs.InstancesLaws.{ceil-at, instances-most}
 use Rattle.bounds.proofs.rising.instances.Statement.{statement}

@@ -1,19 +1,15 @@
 -- `figures::figures::figures_by` works the figures out, group by group. The loop's invariant: those of the flows above h stand in the array.
 -- The measure is how many flows are left. Assumes nothing.
-use Prim.Native.Nat.{ℕ, _+_, _-_, _*_, _≤_, _<_}
-use mathlib.Core.Path.{_≡_, refl, sym, _∙_, ap, ap₂}
+use Prim.Native.Nat.{ℕ, _+_, _-_, _*_, _≤_}
+use mathlib.Core.Path.{_≡_, refl, sym, _∙_, ap}
 use mathlib.Core.List.{List}
 use lib.ListN.{length}
 use denote.Ref.{now}
 use native.Mathlib.Omega.{arith}
-use borrow.Author.Needs.{needs}
-use Rattle.trade.specs.Limits.{mostFlows, mostSteps, mostId}
-use Rattle.trade.specs.Layout.{field}
+use Rattle.trade.specs.Limits.{mostFlows, mostId}
 use Rattle.trade.specs.First.{sumTo}
 use Rattle.sections.specs.Formed.{planStart, planAt}
 use Rattle.figures.specs.Figures.{figureBy}
-use Rattle.figures.specs.Rises.{laneAt, riseAt}
-use Rattle.figures.specs.Lanes.{ReadOut}
 use Rattle.pairs.proofs.SpreadLaws.{zeros}
 use Rattle.figures.proofs.Padded.{filled, length-filled, filled-none}
 use Rattle.figures.proofs.FiguresLaws.{filled-group}

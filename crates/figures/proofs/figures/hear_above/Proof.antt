@@ -1,5 +1,5 @@
 -- `figures::figures::hear_above` asks for the nodes of the plans above another. Assumes nothing.
-use Prim.Native.Nat.{ℕ, _-_, _*_, _≤_}
+use Prim.Native.Nat.{ℕ, _-_}
 use mathlib.Core.Path.{_≡_, sym, _∙_, ap}
 use mathlib.Core.Bool.{Bool, _&&_}
 use native.Mathlib.Omega.{arith}

@@ -1,5 +1,5 @@
 -- `figures::lanes::has_room` asks for both. Assumes nothing.
-use mathlib.Core.Path.{refl, sym, _∙_}
+use mathlib.Core.Path.{refl}
 use borrow.Author.Tests.{lt-ltb, le-ltb}
 use borrow.Author.Needs.{needs}
 use Rattle.figures.proofs.lanes.has_room.Statement.{statement}

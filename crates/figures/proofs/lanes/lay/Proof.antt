@@ -1,14 +1,11 @@
 -- `figures::lanes::lay` sets the marks of each step into its word. The loop's invariant: those of the first j steps are set. The measure
 -- is how many steps are left. Assumes nothing.
-use Prim.Native.Nat.{ℕ, suc, _+_, _-_, _≤_, _<_}
-use mathlib.Core.Path.{_≡_, refl, sym, _∙_, ap}
+use Prim.Native.Nat.{_-_, _≤_}
+use mathlib.Core.Path.{_≡_}
 use native.Mathlib.Omega.{arith}
 use native.Mathlib.Numerals.{add-one}
 use borrow.Author.Needs.{needs}
-use lib.ListN.{length}
-use Rattle.trade.specs.Limits.{mostSteps}
 use Rattle.plans.specs.Plan.{stepsIn}
-use Rattle.pairs.specs.Columns.{Narrow}
 use Rattle.figures.proofs.LanesLaws.{LayingAt, laying-none, laying-more, laying-all}
 use Rattle.figures.proofs.lanes.lay.Statement.{statement}
 use Rattle.figures.proofs.lanes.lay.Tie as tie

@@ -1,17 +1,14 @@
 -- `figures::lanes::lay_group` lays flow by flow. The loop's invariant: those up to the next are laid, and the next lane begins where the
 -- last one ended. The measure is how many flows are left. Assumes nothing.
-use Prim.Native.Nat.{ℕ, suc, _+_, _-_, _*_, _≤_, _<_}
+use Prim.Native.Nat.{suc, _+_, _-_, _≤_, _<_}
 use mathlib.Core.Path.{_≡_, refl, sym, _∙_, ap, ap₂}
 use mathlib.Core.Bool.{Bool, true, false, _&&_}
-use mathlib.Core.Logic.{_⊎_, ⊎-elim, inl, inr}
-use mathlib.Core.List.{List}
+use mathlib.Core.Logic.{_⊎_, ⊎-elim}
 use native.Mathlib.Omega.{arith}
 use borrow.Author.Needs.{needs}
 use borrow.Author.Tests.{ltb-true, lt-ltb}
-use lib.Dec.{ltb}
 use lib.ListN.{length}
 use denote.Ref.{now}
-use Rattle.trade.specs.Limits.{mostSteps}
 use Rattle.trade.proofs.First.{lt-or-ge, not-both}
 use Rattle.nodes.proofs.MaskLaws.{one-bit, bit-only}
 use Rattle.plans.specs.Plan.{stepsIn, planIn}

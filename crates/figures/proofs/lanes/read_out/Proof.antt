@@ -1,11 +1,9 @@
 -- `figures::lanes::read_out` reads lane by lane. The loop's invariant: the figures up to h are read. The measure is how many are left.
 -- Assumes nothing.
 use Prim.Native.Nat.{ℕ, suc, _+_, _-_, _≤_}
-use mathlib.Core.Path.{_≡_, refl, sym, _∙_, ap}
+use mathlib.Core.Path.{_≡_}
 use native.Mathlib.Omega.{arith}
 use native.Mathlib.Numerals.{add-one}
-use borrow.Author.Needs.{needs}
-use lib.ListN.{length}
 use Rattle.figures.specs.Rises.{laneAt}
 use Rattle.figures.specs.Lanes.{ReadOut}
 use Rattle.figures.proofs.RisesLaws.{lane-later}

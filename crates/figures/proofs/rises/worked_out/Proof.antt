@@ -1,7 +1,7 @@
 -- `figures::rises::worked_out` works the words in, the last first. The loop's invariant: each line says what is reached over the columns
 -- from j on. The measure is j. Assumes nothing.
-use Prim.Native.Nat.{ℕ, suc, _-_, _≤_, _<_}
-use mathlib.Core.Path.{_≡_, refl, sym, _∙_, ap, subst}
+use Prim.Native.Nat.{ℕ, suc, _-_, _≤_}
+use mathlib.Core.Path.{_≡_, subst}
 use native.Mathlib.Omega.{arith}
 use borrow.Author.Needs.{needs}
 use Rattle.trade.specs.Interference.{Matrix, worstPath}

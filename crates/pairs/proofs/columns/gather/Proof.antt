@@ -1,7 +1,7 @@
 -- `pairs::columns::gather` notes the steps from the last on. The loop's invariant: the columns hold the last b steps, and what lies beyond
 -- them is as lent. The measure is how many steps are left. Assumes nothing.
 use Prim.Native.Nat.{ℕ, suc, _-_, _≤_}
-use mathlib.Core.Path.{_≡_, refl, sym, _∙_}
+use mathlib.Core.Path.{_≡_, refl, _∙_}
 use native.Mathlib.Omega.{arith}
 use native.Mathlib.Numerals.{add-one}
 use borrow.Author.Needs.{needs}

@@ -5,7 +5,6 @@ use mathlib.Core.Path.{_≡_}
 use native.Mathlib.Omega.{arith}
 use lib.Bits.{and-le-l, and-le-r}
 use lib.Count.{trailingZeros, trailing-le}
-use lib.ListN.{length}
 use denote.Ref.{now}
 use Rattle.nodes.proofs.MaskLaws.{bit-row, one-bit}
 use Rattle.nodes.proofs.LowestLaws.{Lowest, trailing-lowest}

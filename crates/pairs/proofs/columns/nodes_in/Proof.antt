@@ -1,7 +1,7 @@
 -- `pairs::columns::nodes_in` joins the ends of the steps. The loop's invariant: the set has those of the first j. The measure is how many
 -- steps are left. Assumes nothing.
 use Prim.Native.Nat.{ℕ, _-_, _≤_}
-use mathlib.Core.Path.{_≡_, refl, sym, _∙_}
+use mathlib.Core.Path.{_≡_, refl}
 use native.Mathlib.Omega.{arith}
 use native.Mathlib.Numerals.{add-one}
 use Rattle.trade.specs.First.{some}

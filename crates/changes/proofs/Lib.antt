@@ -1,5 +1,7 @@
 -- Laws that the proofs of this crate's functions, and those above it, cite.
 pub mod CutLaws
+pub mod RecutLaws
 pub mod RulesLaws
-pub mod ChangeLaws
+pub mod EnteringLaws
+pub mod LeavingLaws
 pub mod Unique

@@ -1,24 +1,36 @@
--- The rules of a change: each part of the list decides, or leaves it to the next; and those on the new table read what it says. Leans on
--- the trade's Answers. Assumes nothing.
+-- The rules of a change: each part of the list decides, or leaves it to the next; and what has passed. Leans on the trade's Answers and
+-- Valid. Assumes nothing.
 use Prim.Native.Nat.{_≤_, _<_}
 use mathlib.Core.Path.{_≡_, refl, sym, _∙_, ap}
+use mathlib.Core.Bool.{cond}
 use mathlib.Core.List.{List, [], _∷_, _++_, append-assoc}
 use borrow.Author.Tests.{eqb-false, ltb-false, leb-false}
 use Rattle.trade.specs.Limits.{mostFlows}
 use Rattle.trade.specs.Layout.{Sections}
 use Rattle.trade.specs.Facts.{factsOf, factsIn}
-use Rattle.trade.specs.Answers.{firstOf, on, noNumber}
-use Rattle.trade.specs.Bound.{code9}
-use Rattle.trade.specs.Codes.{code6, code8, code14, code15Adding, code15Removing}
+use Rattle.trade.specs.Table.{InMemory}
+use Rattle.trade.specs.Answers.{isDone, firstOf, on, noNumber}
+use Rattle.trade.specs.Codes.{code14, code15Adding, code15Removing}
 use Rattle.trade.specs.Calls.{Adding, Removing, tableRules, withFlow, enterRules, newRules, addAnswer, leaveRules, removeAnswer}
 use Rattle.trade.specs.declared.answer.Answer.{Answer}
-use Rattle.trade.proofs.Answers.{same-none, same-more, firstOf-same, Passed, passed-head, passed-tail, passed-first, passed-others, passed-look, firstOf-passed, given-passed, given-passes, firstOf-last, append-refused, append-passed, firstOf-look, firstOf-on}
+use Rattle.trade.proofs.Answers.{done-first, refused-second, Passed, passed-head, passed-tail, passed-first, passed-others, passed-look, firstOf-passed, given-passed, given-passes, firstOf-last, append-refused, append-passed, firstOf-look, firstOf-on}
+use Rattle.trade.proofs.Valid.{table-valid}
 use Rattle.changes.specs.Change.{oldThen}
+use Rattle.changes.specs.Cut.{InRange}
 
--- the rules on a new table read its facts alone
-pub new-same : (s t : Sections) → factsOf s ≡ factsOf t → firstOf newRules noNumber s ≡ firstOf newRules noNumber t
-unfolding newRules
-new-same s t e = firstOf-same noNumber (same-more (ap code6 e) (same-more (ap code8 e) (same-more (ap code9 e) same-none))) refl
+-- the table after a change, by its answer: as it was, or the new one
+pub leaves : (answer r : Answer) (new old : Sections) → r ≡ answer → (r .code ≡ 0 → ⊥) → old ≡ cond (isDone answer) new old
+leaves answer r new old e n = sym (refused-second answer new old (λ z. n (ap (λ (a : Answer). a .code) e ∙ z)))
+
+pub gives : (answer r : Answer) (new old : Sections) → r ≡ answer → r .code ≡ 0 → new ≡ cond (isDone answer) new old
+gives answer r new old e z = sym (done-first answer new old (sym (ap (λ (a : Answer). a .code) e) ∙ z))
+
+-- a table in memory that passes is in range
+pub passed-in-range : (t : Sections) → InMemory t → Passed t tableRules → InRange t
+unfolding factsOf
+passed-in-range t m p =
+    let v = table-valid t p in
+    record { memory = m; nodes = v .nodes .most; flows = v .flows; lens = λ i h. v .records i h .len .most }
 
 -- THE OLD TABLE, and then the place: the first rules of either change
 module _ {A : Type 0} (table : A → Sections) (place : List (A → Answer)) (x : A) where

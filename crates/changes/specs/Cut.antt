@@ -1,56 +1,47 @@
--- An exchange of flows as the code has it, and the sections that it is made in. Leans on the trade's Exchange.
-use Prim.Native.Nat.{ℕ, _+_, _-_, _*_, _≤_, _<_, min}
-use mathlib.Core.List.{List}
-use lib.ListN.{take, replicate}
+-- Bytes of a section moved in place, and the sections that a flow comes into or goes from. Leans on the trade's Exchange.
+use Prim.Native.Nat.{ℕ, _*_, _≤_, _<_, min}
+use mathlib.Core.Path.{_≡_}
+use mathlib.Core.Bool.{cond}
+use mathlib.Core.List.{List, _++_}
+use lib.ListN.{length, take, drop}
 use Rattle.trade.specs.Limits.{mostNodes, mostFlows, mostSteps, recordBytes, stepBytes}
-use Rattle.trade.specs.First.{sumTo}
 use Rattle.trade.specs.Layout.{Sections, field}
-use Rattle.trade.specs.Table.{InMemory}
-use Rattle.trade.specs.Exchange as trade
-use Rattle.trade.specs.Calls.{recordOf}
-use Rattle.trade.specs.declared.flow.Flow.{Flow}
-use Rattle.changes.specs.declared.cut.Exchange.{Exchange}
+use Rattle.trade.specs.Table.{InMemory, used, tableOf}
+use Rattle.trade.specs.Answers.{isDone, firstOf, noNumber}
+use Rattle.trade.specs.Exchange.{Exchange, recut}
+use Rattle.trade.specs.Calls.{newRules}
+use Rattle.trade.specs.declared.answer.Answer.{Answer}
+use Rattle.bytes.specs.Bytes.{slice}
 
--- the exchange that it is: so many records, and steps, stand in front
-abbrev pub exchangeIn : Exchange → trade.Exchange
-exchangeIn x =
-    record {
-      from = x .from;
-      to = x .to;
-      come = x .come;
-      records = take (recordBytes * x .come) (x .records);
-      steps = take (stepBytes * x .len) (x .steps);
-    }
+-- the bytes from one place up to a second, and those from there up to a third, the other way about
+unfoldable pub turned : ℕ → ℕ → ℕ → List ℕ → List ℕ
+turned from middle to bytes = take from bytes ++ (slice middle to bytes ++ (slice from middle bytes ++ drop to bytes))
 
--- a flow comes in at a place; and one goes
-abbrev pub incoming : ℕ → Flow → List ℕ → Exchange
-incoming place w plan =
-    record { from = place; to = place; come = 1; len = min (w .len) mostSteps; records = recordOf w; steps = plan }
+-- one flow comes in at a place, with this record and these steps
+abbrev pub coming : ℕ → List ℕ → List ℕ → Exchange
+coming place flow plan = record { from = place; to = place; come = 1; records = flow; steps = plan }
 
-abbrev pub outgoing : ℕ → Exchange
-outgoing place =
-    record {
-      from = place;
-      to = place + 1;
-      come = 0;
-      len = 0;
-      records = replicate recordBytes 0;
-      steps = replicate (mostSteps * stepBytes) 0;
-    }
-
--- of so many flows those that go are there; one comes at most, and there is room for it and for its steps
-pub record Possible (flows : ℕ) (x : Exchange) : Type 0 where
-  pub few : flows ≤ mostFlows
-  pub order : x .from ≤ x .to
-  pub within : x .to ≤ flows
-  pub one : x .come ≤ 1
-  pub room : x .from + x .come + (flows - x .to) ≤ mostFlows
-  pub short : x .len ≤ mostSteps * x .come
-
--- a table in memory, its counts in range and no L above the most; and no more steps come than the L of the flow that does
-pub record Recuts (t : Sections) (x : Exchange) : Type 0 where
+-- a table in memory, its counts in range and no L above the most
+pub record InRange (t : Sections) : Type 0 where
   pub memory : InMemory t
   pub nodes : t .nodes ≤ mostNodes
-  pub flows : Possible (t .flows) x
+  pub flows : t .flows ≤ mostFlows
   pub lens : (i : ℕ) → i < t .flows → field (t .records) i 4 ≤ mostSteps
-  pub planned : x .len ≤ sumTo (λ i. field (exchangeIn x .records) i 4) (x .come)
+
+-- with room at a place for a flow of this record, which has these steps, or as many as the most where its L is above that
+pub record Coming (t : Sections) (place : ℕ) (flow plan : List ℕ) : Type 0 where
+  pub old : InRange t
+  pub room : t .flows < mostFlows
+  pub within : place ≤ t .flows
+  pub recorded : length flow ≡ recordBytes
+  pub planned : length plan ≡ stepBytes * min (field flow 0 4) mostSteps
+
+-- what the rules on the table with it answer, and the table after: with it, or as it was
+pub record Comes (t : Sections) (place : ℕ) (flow plan : List ℕ) (r : Answer) (after : Sections) : Type 0 where
+  pub answer : r ≡ firstOf newRules noNumber (recut (used t) (coming place flow plan))
+  pub table : after ≡ cond (isDone r) (tableOf (recut (used t) (coming place flow plan))) t
+
+-- such a table with a flow at a place
+pub record Leaving (t : Sections) (place : ℕ) : Type 0 where
+  pub old : InRange t
+  pub within : place < t .flows

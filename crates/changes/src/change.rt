@@ -1,13 +1,10 @@
 // Adding a flow to a table at a place, and removing one. The rules are tested in their order: on the old table, on the place, on the new
-// table. The old table is handed back where one of them refuses.
+// table. The old table is handed back where one of them refuses. A change is made where the sections lie, in one copy of them: each move
+// of a table by value would be another on the stack.
 ghost use Rattle.changes.specs.Change.{Adds, Removes};
 ghost use Rattle.table.specs.Table.{sectionsIn};
-use crate::cut::Exchange;
-use crate::cut::recut;
-use crate::rules::enter_answer;
-use crate::rules::leave_answer;
-use crate::rules::new_answer;
-use crate::rules::old_answer;
+use crate::entering::enter;
+use crate::leaving::leave;
 use table::table::Table;
 use trade::Answer;
 use trade::Flow;
@@ -24,59 +21,56 @@ pub struct Changed {
 pub fn add(t: Table, place: usize, flow: Flow, plan: [u8; Plan::MOST * Plan::STEP_BYTES]) -> Changed
     ensures { λ r. ⌜ Adds (record { table = sectionsIn t; place = place; flow = flow; plan = plan }) r ⌝ }
 {
-    let placed = enter_answer(t.flows as usize, place);
-    let asked = old_answer(
-        t.nodes as usize,
-        t.flows as usize,
-        &t.rows,
-        &t.records,
-        &t.steps,
-        placed,
+    let mut flows = t.flows;
+    let mut rows = t.rows;
+    let mut records = t.records;
+    let mut steps = t.steps;
+    let answer = enter(
+        t.nodes,
+        &mut flows,
+        &mut rows,
+        &mut records,
+        &mut steps,
+        place,
+        flow,
+        plan,
     );
-    if asked.code != 0 {
-        return Changed {
-            answer: asked,
-            table: t,
-        };
+    Changed {
+        answer,
+        table: Table {
+            nodes: t.nodes,
+            flows,
+            rows,
+            records,
+            steps,
+        },
     }
-    let x = Exchange::entering(place, flow, plan);
-    let new = recut(t.nodes, t.flows, &t.rows, &t.records, &t.steps, x);
-    let answer = new_answer(
-        new.nodes as usize,
-        new.flows as usize,
-        &new.rows,
-        &new.records,
-        &new.steps,
-    );
-    if answer.code != 0 {
-        return Changed { answer, table: t };
-    }
-    Changed { answer, table: new }
 }
 
 // REMOVE the flow at a place: codes 3, 5, 6 and 8, then 15. Refused, the table as handed in.
 pub fn remove(t: Table, place: usize) -> Changed
     ensures { λ r. ⌜ Removes (record { table = sectionsIn t; place = place }) r ⌝ }
 {
-    let placed = leave_answer(t.flows as usize, place);
-    let asked = old_answer(
-        t.nodes as usize,
-        t.flows as usize,
-        &t.rows,
-        &t.records,
-        &t.steps,
-        placed,
+    let mut flows = t.flows;
+    let mut rows = t.rows;
+    let mut records = t.records;
+    let mut steps = t.steps;
+    let answer = leave(
+        t.nodes,
+        &mut flows,
+        &mut rows,
+        &mut records,
+        &mut steps,
+        place,
     );
-    if asked.code != 0 {
-        return Changed {
-            answer: asked,
-            table: t,
-        };
-    }
-    let x = Exchange::leaving(place);
-    let table = recut(t.nodes, t.flows, &t.rows, &t.records, &t.steps, x);
     Changed {
-        answer: asked,
-        table,
+        answer,
+        table: Table {
+            nodes: t.nodes,
+            flows,
+            rows,
+            records,
+            steps,
+        },
     }
 }

@@ -1,21 +1,23 @@
 // The rules of a change: on the old table, on where a flow comes in or which goes, and on the new table.
 ghost use mathlib.Core.Path.{_≡_};
 ghost use mathlib.Core.List.{[], _∷_};
-ghost use Prim.Native.Nat.{_≤_};
-ghost use Rattle.trade.specs.Limits.{mostNodes, mostFlows};
+ghost use Prim.Native.Nat.{_*_, _≤_};
+ghost use lib.ListN.{length, take};
+ghost use Rattle.trade.specs.Limits.{rowBytes, recordBytes};
 ghost use Rattle.trade.specs.Layout.{sections};
 ghost use Rattle.trade.specs.Facts.{factsIn};
 ghost use Rattle.trade.specs.Table.{InMemory};
 ghost use Rattle.trade.specs.Answers.{firstOf, noNumber};
 ghost use Rattle.trade.specs.Codes.{code14, code15Adding, code15Removing};
 ghost use Rattle.trade.specs.Calls.{newRules};
-ghost use Rattle.changes.specs.Change.{oldThen};
+ghost use Rattle.changes.specs.Change.{oldThen, New};
 use bounds::bounds::bounds_of;
 use sections::records::records_answer;
 use sections::steps::steps_answer;
 use table::table::table_answer;
 use trade::Answer;
 use trade::Flow;
+use trade::Node;
 
 // Codes 3, 5, 6 and 8 on the old table, and where they pass what the place answers.
 pub(crate) fn old_answer<'a>(
@@ -60,15 +62,14 @@ pub(crate) fn leave_answer(flows: usize, place: usize) -> Answer
 }
 
 // Codes 6, 8 and 9 on the new table, every flow tested.
-pub(crate) fn new_answer<'a>(
+fn new_answer<'a>(
     nodes: usize,
     flows: usize,
     rows: &'a [u8],
     records: &'a [u8],
     steps: &'a [u8],
 ) -> Answer
-    requires { ⌜ InMemory (sections nodes flows (now rows) (now records) (now steps)) ⌝ }
-    requires { ⌜ (nodes ≤ mostNodes) × (flows ≤ mostFlows) ⌝ }
+    requires { ⌜ New (sections nodes flows (now rows) (now records) (now steps)) ⌝ }
     ensures { λ r. ⌜ r ≡ firstOf newRules noNumber (sections nodes flows (now (rows .entry)) (now (records .entry)) (now (steps .entry))) ⌝ }
 {
     let named = records_answer(flows, records);
@@ -80,4 +81,29 @@ pub(crate) fn new_answer<'a>(
         return stepped;
     }
     bounds_of(flows, rows, records, steps).answer
+}
+
+// The same on the used places of lent sections, where the steps in use end at this byte.
+pub(crate) fn used_answer<'a>(
+    nodes: usize,
+    flows: usize,
+    rows: &'a [u8],
+    records: &'a [u8],
+    steps: &'a [u8],
+    end: usize,
+) -> Answer
+    requires { ⌜ New (sections nodes flows (take (rowBytes * nodes) (now rows)) (take (recordBytes * flows) (now records)) (take end (now steps))) ⌝ }
+    requires { ⌜ end ≤ length (now steps) ⌝ }
+    ensures { λ r. ⌜ r ≡ firstOf newRules noNumber
+        (sections nodes flows (take (rowBytes * nodes) (now (rows .entry))) (take (recordBytes * flows) (now (records .entry))) (take end (now (steps .entry)))) ⌝ }
+{
+    let row_end = Node::ROW_BYTES * nodes;
+    let record_end = Flow::RECORD_BYTES * flows;
+    new_answer(
+        nodes,
+        flows,
+        &rows[..row_end],
+        &records[..record_end],
+        &steps[..end],
+    )
 }

@@ -4,7 +4,6 @@ use Prim.Native.Nat.{_*_, _≤_}
 use mathlib.Core.Path.{_≡_, refl, _∙_, sym, ap}
 use mathlib.Core.List.{[], _∷_}
 use denote.Ref.{now}
-use native.Mathlib.Omega.{arith}
 use lib.ListN.{length}
 use Rattle.trade.specs.Limits.{stepBytes}
 use Rattle.trade.specs.Layout.{Sections, sections}
@@ -15,7 +14,6 @@ use Rattle.trade.specs.Bound.{code9, code9By}
 use Rattle.trade.specs.Calls.{newRules}
 use Rattle.trade.specs.declared.answer.Answer.{Answer}
 use Rattle.trade.proofs.Answers.{firstOf-refuse, firstOf-pass, firstOf-last, given-passes}
-use Rattle.trade.proofs.Valid.{plans-most}
 use Rattle.sections.proofs.OwnSections.{code6-records, code8-steps}
 use Rattle.sections.proofs.FormedLaws.{formed-by}
 use Rattle.bounds.specs.Bounds.{boundedBy}
@@ -44,10 +42,7 @@ six-passes : (c : tie.Else1) → code6 (factsOf (first (c .before .before))) .co
 six-passes c = sym (ap (λ (r : Answer). r .code) (six (c .before .before))) ∙ c .if1 .left
 
 plans-fit : (c : tie.Else1) → stepBytes * allSteps (factsOf (first (c .before .before))) ≤ length (first (c .before .before) .steps)
-unfolding factsOf
-plans-fit c =
-    let (memory, few) = c .before .before .before .before .before .before .pre in
-    omega (arith, plans-most _ (six-passes c), memory .steps, few .1)
+plans-fit c = c .before .before .before .before .before .before .pre .steps (six-passes c)
 
 past-six :
     (c : tie.Else1)
@@ -72,8 +67,8 @@ returns c =
 steps-answer-requires : tie.Need-steps-answer-requires
 unfolding factsOf firstStep allSteps
 steps-answer-requires c κs =
-    let (memory, few) = c .before .before .before .before .before .before .pre in
-    ((few .1, omega (arith, memory .records, few .1)), plans-fit c)
+    let new = c .before .before .before .before .before .before .pre in
+    ((new .flows, new .records), plans-fit c)
 
 returns-2 : tie.Need-returns-2
 returns-2 c =
@@ -85,9 +80,9 @@ returns-2 c =
 
 bounds-of-requires : tie.Need-bounds-of-requires
 bounds-of-requires c κs =
-    let (memory, few) = c .before .before .before .before .before .before .before .before .before .pre in
-    formed-by (second (c .before .before)) (few .0) (few .1) (omega (arith, memory .rows, few .0)) (omega (arith, memory .records, few .1))
-    (plans-fit (c .before .before .before)) (six-passes (c .before .before .before)) (eight-passes c)
+    let new = c .before .before .before .before .before .before .before .before .before .pre in
+    formed-by (second (c .before .before)) (new .nodes) (new .flows) (new .rows) (new .records) (plans-fit (c .before .before .before))
+    (six-passes (c .before .before .before)) (eight-passes c)
 
 returns-3 : tie.Need-returns-3
 unfolding boundedBy code9By givenFirst factsOf

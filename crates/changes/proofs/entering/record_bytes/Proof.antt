@@ -1,11 +1,11 @@
--- `changes::cut::record_bytes` meets its contract: five words are put one behind the other. Assumes nothing.
+-- `changes::entering::record_bytes` meets its contract: five words are put one behind the other. Assumes nothing.
 use mathlib.Core.Path.{_∙_}
 use borrow.Author.Needs.{needs}
 use Rattle.trade.specs.Bytes.{twoBytes}
 use Rattle.trade.specs.Calls.{recordOf}
 use Rattle.numbers.specs.Pasting.{pastedAt}
-use Rattle.changes.proofs.cut.record_bytes.Statement.{statement}
-use Rattle.changes.proofs.cut.record_bytes.Tie as tie
+use Rattle.changes.proofs.entering.record_bytes.Statement.{statement}
+use Rattle.changes.proofs.entering.record_bytes.Tie as tie
 
 returns : tie.Need-returns
 unfolding pastedAt twoBytes recordOf

@@ -1,0 +1,180 @@
+-- A flow that comes into a table's sections: with it among the bytes in use they are those of the new table, whose rules can be tested.
+-- Leans on CutLaws, RecutLaws, RulesLaws and the trade's Exchange. Assumes nothing.
+use Prim.Native.Nat.{ℕ, _+_, _*_, _≤_, _<_, min}
+use mathlib.Core.Path.{_≡_, refl, sym, _∙_, ap, ap₂}
+use mathlib.Core.Logic.{⊎-elim}
+use mathlib.Core.List.{List, []}
+use native.Mathlib.Omega.{arith}
+use native.Mathlib.Nat.{add-zero}
+use lib.ListN.{length, take}
+use lib.Seq.{length-take-le, take-all}
+use Rattle.trade.specs.Limits.{mostSteps, rowBytes, recordBytes, stepBytes}
+use Rattle.trade.specs.First.{sumTo}
+use Rattle.trade.specs.Bytes.{word, twoBytes, over}
+use Rattle.trade.specs.Layout.{Sections, sections, field}
+use Rattle.trade.specs.Facts.{factsOf, firstStep, allSteps}
+use Rattle.trade.specs.Table.{InMemory, used}
+use Rattle.trade.specs.Exchange.{spliced, recut}
+use Rattle.trade.specs.Codes.{badRecord, code6}
+use Rattle.trade.specs.Calls.{Adding, recordOf, withFlow, enterRules}
+use Rattle.trade.proofs.First.{lt-or-ge}
+use Rattle.trade.proofs.Sums.{sum-rest, sum-le}
+use Rattle.trade.proofs.Bytes.{word-twoBytes, take-over}
+use Rattle.trade.proofs.Answers.{givenFirst-passed}
+use Rattle.trade.proofs.Valid.{sound}
+use Rattle.trade.proofs.Used.{same-sections, NoMore}
+use Rattle.trade.proofs.Exchange.{Fits, field-come, new-steps, recut-no-more}
+use Rattle.changes.specs.Change.{New}
+use Rattle.changes.specs.Cut.{coming, Coming}
+use Rattle.changes.proofs.CutLaws.{length-entered}
+use Rattle.changes.proofs.RecutLaws.{steps-most, old-full, old-first, steps-cut}
+use Rattle.changes.proofs.RulesLaws.{passed-in-range, old-passed, place-passed, askAnswer, enter-room}
+
+-- A FLOW COMES, with this record and these steps
+module _ (t : Sections) (place : ℕ) (flow plan : List ℕ) (c : Coming t place flow plan) where
+  abbrev new : Sections
+  new = recut (used t) (coming place flow plan)
+
+  abbrev lens : ℕ → ℕ
+  lens i = field (t .records) i 4
+
+  abbrev all : ℕ
+  all = sumTo lens (t .flows)
+
+  fits : Fits (used t) (coming place flow plan)
+  unfolding used sumTo
+  fits = record { order = omega arith; within = c .within; records = c .recorded; steps = omega (arith, c .planned) }
+
+  pub new-no-more : NoMore new
+  new-no-more = recut-no-more (used t) (coming place flow plan) (old-full t (c .old)) fits
+
+  -- there is room for its record and for its steps
+  record-room : recordBytes * t .flows + length flow ≤ length (t .records)
+  record-room = omega (arith, c .recorded, c .room, c .old .memory .records)
+
+  pub step-first : stepBytes * sumTo lens place ≤ stepBytes * all
+  step-first = omega (arith, sum-le lens place (t .flows) (c .within))
+
+  pub step-room : stepBytes * all + length plan ≤ length (t .steps)
+  step-room = omega (arith, c .planned, c .room, c .old .memory .steps, steps-most t (c .old) (t .flows) (omega arith))
+
+  -- and the new table has them among the others
+  new-records : length (new .records) ≡ recordBytes * (t .flows + 1)
+  unfolding recut used
+  new-records =
+      length-entered (recordBytes * place) (recordBytes * t .flows) flow (t .records) (omega (arith, c .within)) record-room
+      ∙ omega (arith, c .recorded)
+
+  new-steps-are : spliced (stepBytes * sumTo lens place) (stepBytes * sumTo lens place) plan (take (stepBytes * all) (t .steps)) ≡ new .steps
+  new-steps-are =
+      steps-cut t (c .old) (coming place flow plan) (sumTo lens place) (sumTo lens place) all (omega arith) (c .within) refl refl refl
+
+  length-new-steps : length (new .steps) ≡ stepBytes * all + length plan
+  length-new-steps =
+      ap length (sym new-steps-are) ∙ length-entered (stepBytes * sumTo lens place) (stepBytes * all) plan (t .steps) step-first step-room
+
+  -- so the bytes in use, with the flow among them, are the new table
+  pub with-it :
+      (first last : ℕ) (records steps : List ℕ)
+      → first ≡ sumTo lens place
+      → last ≡ all
+      → records ≡ over (spliced (recordBytes * place) (recordBytes * place) flow (take (recordBytes * t .flows) (t .records))) (t .records)
+      → steps ≡ over (spliced (stepBytes * first) (stepBytes * first) plan (take (stepBytes * last) (t .steps))) (t .steps)
+      → sections (t .nodes) (t .flows + 1) (take (rowBytes * t .nodes) (t .rows)) (take (recordBytes * (t .flows + 1)) records)
+      (take (stepBytes * last + length plan) steps)
+      ≡ new
+  unfolding recut used
+  with-it first last records steps e₁ e₂ f g =
+      let cut : spliced (stepBytes * first) (stepBytes * first) plan (take (stepBytes * last) (t .steps)) ≡ new .steps =
+      rw (e₁, e₂) new-steps-are in
+      let size : length (new .steps) ≡ stepBytes * last + length plan = length-new-steps ∙ omega arith in
+      same-sections _ new refl (omega arith) refl
+      (ap₂ take (sym new-records) f ∙ take-over (new .records) (t .records))
+      (ap₂ take (sym size) (g ∙ ap (λ (l : List ℕ). over l (t .steps)) cut) ∙ take-over (new .steps) (t .steps))
+
+  -- whose steps are there where code 6 passes, since no L is above the most then
+  new-len : field (new .records) place 4 ≡ field flow 0 4
+  new-len =
+      ap (λ (i : ℕ). field (new .records) i 4) (sym (add-zero place))
+      ∙ field-come (used t) (coming place flow plan) (old-full t (c .old)) fits 0 (omega arith) 4 (omega arith)
+
+  len-most : code6 (factsOf new) .code ≡ 0 → field flow 0 4 ≤ mostSteps
+  unfolding code6 factsOf recut used
+  len-most e =
+      omega (
+        arith,
+        new-len,
+        sound (factsOf new) place (givenFirst-passed 5 (badRecord (factsOf new)) (new .flows) e place (omega (arith, c .within))) .len .most,
+      )
+
+  new-all : allSteps (factsOf new) ≡ all + field flow 0 4
+  unfolding firstStep factsOf used sumTo
+  new-all =
+      omega (
+        arith,
+        new-steps (used t) (coming place flow plan) (old-full t (c .old)) fits,
+        sum-rest (λ i. field (used t .records) i 4) place (t .flows) (c .within),
+        old-first t (c .old) place (c .within),
+        old-first t (c .old) (t .flows) (omega arith),
+      )
+
+  pub new-tested : New new
+  unfolding recut used
+  new-tested =
+      record {
+        nodes = c .old .nodes;
+        flows = omega (arith, c .room);
+        rows = omega (arith, old-full t (c .old) .rows);
+        records = omega (arith, new-records);
+        steps = λ e. omega (arith, new-all, len-most e, length-new-steps, c .planned);
+      }
+
+-- ADDING, where the old table and the place have passed
+pub record Enters (a : Adding) : Type 0 where
+  pub memory : InMemory (a .table)
+  pub plan : length (a .plan) ≡ stepBytes * mostSteps
+  pub len : a .flow .len < 65536
+  pub asked : askAnswer a .code ≡ 0
+
+module _ (a : Adding) (e : Enters a) where
+  abbrev taken : List ℕ
+  taken = take (stepBytes * min (a .flow .len) mostSteps) (a .plan)
+
+  -- the flow may come in, with as many steps as it takes of its plan,
+  its-len : field (recordOf (a .flow)) 0 4 ≡ a .flow .len
+  unfolding field word recordOf twoBytes
+  its-len = word-twoBytes (a .flow .len) [] (e .len)
+
+  its-record : length (recordOf (a .flow)) ≡ recordBytes
+  unfolding recordOf twoBytes
+  its-record = refl
+
+  pub enter-comes : Coming (a .table) (a .place) (recordOf (a .flow)) taken
+  enter-comes =
+      let old = passed-in-range (a .table) (e .memory) (old-passed (λ b. b .table) enterRules a (e .asked)) in
+      let (room, within) = enter-room a (place-passed (λ b. b .table) enterRules a (e .asked)) in
+      record {
+        old = old;
+        room = omega (arith, old .flows, room);
+        within = within;
+        recorded = its-record;
+        planned = omega (arith, its-len, length-take-le (stepBytes * min (a .flow .len) mostSteps) (a .plan) (omega (arith, e .plan)));
+      }
+
+  -- which are those that it should have
+  all-of : (k : ℕ) → length (a .plan) ≤ k → take k (a .plan) ≡ a .plan
+  all-of k h = take-all k (a .plan) h
+
+  its-steps : taken ≡ take (stepBytes * a .flow .len) (a .plan)
+  its-steps =
+      ⊎-elim
+      (λ (l : a .flow .len < mostSteps).
+      let same : min (a .flow .len) mostSteps ≡ a .flow .len = omega arith in
+      ap (λ (k : ℕ). take (stepBytes * k) (a .plan)) same)
+      (λ (l : mostSteps ≤ a .flow .len).
+      all-of (stepBytes * min (a .flow .len) mostSteps) (omega (arith, e .plan)) ∙ sym (all-of (stepBytes * a .flow .len) (omega (arith, e .plan))))
+      (lt-or-ge (a .flow .len) mostSteps)
+
+  pub enter-made : recut (used (a .table)) (coming (a .place) (recordOf (a .flow)) taken) ≡ withFlow a
+  unfolding withFlow
+  enter-made = ap (λ (steps : List ℕ). recut (used (a .table)) (coming (a .place) (recordOf (a .flow)) steps)) its-steps

@@ -17,14 +17,14 @@ use Rattle.plans.specs.Plan.{AllWithin, stepsIn, planIn}
 use Rattle.plans.specs.Single.{again, singles, placeOf, Singled}
 use Rattle.plans.proofs.StepsLaws.{step-plan, plan-length, steps-plan}
 use Rattle.plans.proofs.SingleLaws.{singles-none, singles-new, singles-some, singles-most, place-below, place-next, place-onto}
-use mathlib.Core.Bool.{true, false, _||_}
+use mathlib.Core.Bool.{Bool, true, false, _||_}
 use lib.Dec.{eqb}
 use Rattle.trade.specs.declared.node.Node.{Node}
 use Rattle.nodes.specs.Network.{InNetwork}
 use borrow.Author.Tests.{eq-eqb, eqb-true}
 use Rattle.trade.specs.First.{some}
 use Rattle.trade.proofs.First.{lt-or-ge, bool-cases, some-true, some-intro}
-use Rattle.pairs.specs.Columns.{nodesIn, ending, marksOf, Columns, matrixBy}
+use Rattle.pairs.specs.Columns.{nodesIn, ending, Hears, marksOf, Columns, matrixBy}
 use Rattle.figures.proofs.RisesLaws.{worst-at-most}
 use Rattle.pairs.proofs.PathLaws.{interference-plans, path-once}
 use Rattle.pairs.proofs.GatherLaws.{figure-by-columns}
@@ -145,6 +145,10 @@ filled-group line n first until figure after o m is r =
     behind : (i : ℕ) → until ≤ i → getD after i 0 ≡ getD (filled mostFlows figure until) i 0
     behind i h = r .past i h ∙ filled-behind mostFlows figure first i (omega arith) ∙ sym (filled-behind mostFlows figure until i h)
 
+or-true : (b : Bool) → (b || true) ≡ true
+or-true true = refl
+or-true false = refl
+
 -- what is heard of all flows is heard of those above one of them
 pub all-heard :
     (k l : ℕ) (rows records steps heard : List ℕ)
@@ -153,15 +157,22 @@ pub all-heard :
     → HeardIn k rows records steps heard
     → AllHeard l rows records steps heard
 unfolding ending
-all-heard k l rows records steps heard f below r h j p q y b =
+all-heard k l rows records steps heard f below r h j p q =
     let at : ℕ = planStart records h + j in
     let own = steps-plan steps (planStart records h) (field records h 4) (plan-lies k rows records steps f h (omega arith)) in
     let same : stepIn (planAt records steps h) j ≡ stepIn steps at = step-plan steps (planStart records h) (field records h 4) j (omega (arith, own)) in
-    let x : ℕ = stepIn steps at .sender .0 in
-    let sends : some (λ (i : ℕ). ending (stepIn steps i) x) (planStart records (k - 1)) ≡ true
-    = some-intro (λ (i : ℕ). ending (stepIn steps i) x) (planStart records (k - 1)) at (omega (arith, own, plan-ends records h (k - 1) (omega arith)))
-    (rw (eq-eqb x x refl) refl) in
-    rw same (r .bits y x b ∙ rw sends refl)
+    let there : at < planStart records (k - 1) = omega (arith, own, plan-ends records h (k - 1) (omega arith)) in
+    let sender : ℕ = stepIn steps at .sender .0 in
+    let receiver : ℕ = stepIn steps at .receiver .0 in
+    rw same (
+      known sender (some-intro (λ (i : ℕ). ending (stepIn steps i) sender) (planStart records (k - 1)) at there (rw (eq-eqb sender sender refl) refl)),
+      known receiver
+          (some-intro (λ (i : ℕ). ending (stepIn steps i) receiver) (planStart records (k - 1)) at there
+          (rw (eq-eqb receiver receiver refl) (or-true (eqb sender receiver)))),
+    )
+  where
+    known : (x : ℕ) → some (λ (i : ℕ). ending (stepIn steps i) x) (planStart records (k - 1)) ≡ true → Hears rows heard x
+    known x e y b = r .bits y x b ∙ rw e refl
 
 -- the nodes of the flows have rows
 pub nodes-known :

@@ -27,7 +27,10 @@ pub record HeardIn (flows : ℕ) (rows records steps heard : List ℕ) : Type 0 
   pub size : length heard ≡ mostNodes
   pub bits : (y x : ℕ) → y < mostNodes → bit (getD heard y 0) x ≡ (some (λ j. ending (stepIn steps j) x) (planStart records (flows - 1)) && disturbsIn rows x y)
 
--- of each sender above l
+-- of each sender and each receiver above l
 abbrev pub AllHeard : ℕ → List ℕ → List ℕ → List ℕ → List ℕ → Type 0
 AllHeard l rows records steps heard =
-    (h j : ℕ) → h < l → j < stepsIn (planAt records steps h) → Hears rows heard (stepIn (planAt records steps h) j .sender .0)
+    (h j : ℕ)
+    → h < l
+    → j < stepsIn (planAt records steps h)
+    → Hears rows heard (stepIn (planAt records steps h) j .sender .0) × Hears rows heard (stepIn (planAt records steps h) j .receiver .0)

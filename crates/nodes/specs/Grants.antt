@@ -14,22 +14,25 @@ use Rattle.nodes.specs.declared.grants.GrantSet.{GrantSet}
 
 -- no grants
 abbrev pub noGrants : GrantSet
-noGrants = record { busy = 0; disturbed = 0; receivers = 0 }
+noGrants = record { senders = 0; receivers = 0; disturbed = 0; answered = 0 }
 
--- a transmission clashes with the grants if one of its nodes is busy, if its receiver is disturbed, or if its sender disturbs a receiver
+-- a transmission clashes with the grants if one of its nodes sends or receives already; if its sender is disturbed by a receiver, or its
+-- receiver by a sender; or if its sender disturbs a receiver, or its receiver a sender
 unfoldable pub clashesWith : List ℕ → GrantSet → Transmission → Bool
 clashesWith rows set t =
-    bit (set .busy) (t .sender .0)
-    || bit (bitOr (set .busy) (set .disturbed)) (t .receiver .0)
+    bit (bitOr (bitOr (set .senders) (set .receivers)) (set .answered)) (t .sender .0)
+    || bit (bitOr (bitOr (set .senders) (set .receivers)) (set .disturbed)) (t .receiver .0)
     || meets (rowMask rows (t .sender .0)) (set .receivers)
+    || meets (rowMask rows (t .receiver .0)) (set .senders)
 
 -- the grants and one more
 unfoldable pub oneMore : List ℕ → GrantSet → Transmission → GrantSet
 oneMore rows set t =
     record {
-      busy = bitOr (bitOr (set .busy) (only (t .sender .0))) (only (t .receiver .0));
-      disturbed = bitOr (set .disturbed) (rowMask rows (t .sender .0));
+      senders = bitOr (set .senders) (only (t .sender .0));
       receivers = bitOr (set .receivers) (only (t .receiver .0));
+      disturbed = bitOr (set .disturbed) (rowMask rows (t .sender .0));
+      answered = bitOr (set .answered) (rowMask rows (t .receiver .0));
     }
 
 -- THE SET HOLDS THESE GRANTS: a transmission clashes with it exactly if it conflicts with one of them. What the set keeps of them is its

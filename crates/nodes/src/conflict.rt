@@ -25,7 +25,7 @@ fn meet(a: Node, b: Node, c: Node, d: Node) -> bool
     (a.0 == b.0) | (c.0 == d.0) | (a.0 == c.0) | (a.0 == d.0) | (b.0 == c.0) | (b.0 == d.0)
 }
 
-// A to B and C to D conflict if the four nodes are not all distinct, or C disturbs B, or A disturbs D.
+// A to B and C to D conflict if the four nodes are not all distinct, or C disturbs B, or A disturbs D; or D disturbs A, or B disturbs C.
 pub fn conflict(rows: &[u8], t: Transmission, u: Transmission) -> bool
     requires { ⌜ Within (now rows) t × Within (now rows) u ⌝ }
     ensures { λ r. ⌜ r ≡ conflict (disturbsIn (now (rows .entry))) t u ⌝ }
@@ -33,4 +33,6 @@ pub fn conflict(rows: &[u8], t: Transmission, u: Transmission) -> bool
     meet(t.sender, t.receiver, u.sender, u.receiver)
         | disturbs(rows, u.sender, t.receiver)
         | disturbs(rows, t.sender, u.receiver)
+        | disturbs(rows, u.receiver, t.sender)
+        | disturbs(rows, t.receiver, u.sender)
 }

@@ -6,11 +6,13 @@ use crate::mask::only;
 use crate::mask::row_mask;
 use trade::Transmission;
 
-// The nodes that send or receive, the nodes that a sender disturbs, and the nodes that receive. Each is a mask of nodes.
+// The nodes that send, those that receive, those that a sender disturbs, and those that a receiver disturbs when it acknowledges. Each is a
+// mask of nodes.
 pub struct GrantSet {
-    pub busy: u64,
-    pub disturbed: u64,
+    pub senders: u64,
     pub receivers: u64,
+    pub disturbed: u64,
+    pub answered: u64,
 }
 
 impl GrantSet {
@@ -19,9 +21,10 @@ impl GrantSet {
         ensures { λ r. ⌜ Fresh r ⌝ }
     {
         GrantSet {
-            busy: 0,
-            disturbed: 0,
+            senders: 0,
             receivers: 0,
+            disturbed: 0,
+            answered: 0,
         }
     }
 
@@ -30,9 +33,10 @@ impl GrantSet {
         requires { ⌜ Within (now rows) t ⌝ }
         ensures { λ r. ⌜ Asked (now (rows .entry)) self t r ⌝ }
     {
-        has(self.busy, t.sender)
-            | has(self.busy | self.disturbed, t.receiver)
+        has(self.senders | self.receivers | self.answered, t.sender)
+            | has(self.senders | self.receivers | self.disturbed, t.receiver)
             | (row_mask(rows, t.sender) & self.receivers != 0)
+            | (row_mask(rows, t.receiver) & self.senders != 0)
     }
 
     // The grants and one more.
@@ -41,9 +45,10 @@ impl GrantSet {
         ensures { λ r. ⌜ Grown (now (rows .entry)) self t r ⌝ }
     {
         GrantSet {
-            busy: self.busy | only(t.sender) | only(t.receiver),
-            disturbed: self.disturbed | row_mask(rows, t.sender),
+            senders: self.senders | only(t.sender),
             receivers: self.receivers | only(t.receiver),
+            disturbed: self.disturbed | row_mask(rows, t.sender),
+            answered: self.answered | row_mask(rows, t.receiver),
         }
     }
 }

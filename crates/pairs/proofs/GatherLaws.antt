@@ -18,20 +18,23 @@ use Rattle.trade.proofs.Conflict.{conflict-symmetric}
 use Rattle.trade.proofs.Interference.{paths-agree}
 use Rattle.nodes.specs.Network.{Within}
 use Rattle.plans.specs.Plan.{AllWithin, stepsIn}
-use Rattle.pairs.specs.Columns.{marksOf, fromEnd, Hears, receiving, sending, Columns, markedAt, Narrow, matrixBy}
+use Rattle.pairs.specs.Columns.{marksOf, fromEnd, Hears, near, receiving, sending, Columns, markedAt, Narrow, matrixBy}
+
+or-true : (b : Bool) → (b || true) ≡ true
+or-true true = refl
+or-true false = refl
 
 -- the tests of a conflict, in the order of the columns
-reorder : (p q r s t u : Bool) → (false || false || p || q || r || s || t || u) ≡ (p || q || u || (r || s || t))
-reorder true q r s t u = refl
-reorder false true r s t u = refl
-reorder false false true s t true = refl
-reorder false false true s t false = refl
-reorder false false false true t true = refl
-reorder false false false true t false = refl
-reorder false false false false true true = refl
-reorder false false false false true false = refl
-reorder false false false false false true = refl
-reorder false false false false false false = refl
+reorder : (p q r s t u x y : Bool) → (false || false || p || q || r || s || t || u || x || y) ≡ ((p || q || (x || u)) || (r || s || (t || y)))
+reorder true q r s t u x y = refl
+reorder false true r s t u x y = refl
+reorder false false true s t u x y = sym (or-true (x || u))
+reorder false false false true t u x y = sym (or-true (x || u))
+reorder false false false false true u x y = sym (or-true (x || u))
+reorder false false false false false true true y = refl
+reorder false false false false false true false y = refl
+reorder false false false false false false true y = refl
+reorder false false false false false false false y = refl
 
 eqb-turned : (a b : ℕ) → eqb a b ≡ eqb b a
 eqb-turned a b = ⊎-elim (λ (h : a < b). off (λ e. omega arith) (λ e. omega arith)) (λ (h : b ≤ a). ⊎-elim (λ (g : b < a). off (λ e. omega arith) (λ e. omega arith)) (λ (g : a ≤ b). on (omega arith)) (lt-or-ge b a)) (lt-or-ge a b)
@@ -49,9 +52,10 @@ module _ (rows heard : List ℕ) where
       → Within rows t
       → Within rows u
       → Hears rows heard (t .sender .0)
-      → conflict (disturbsIn rows) t u ≡ (sending heard u (t .sender .0) || receiving rows u (t .receiver .0))
-  unfolding conflict meet sending receiving
-  conflict-parts t u p q hears =
+      → Hears rows heard (t .receiver .0)
+      → conflict (disturbsIn rows) t u ≡ (sending rows heard u (t .sender .0) || receiving rows heard u (t .receiver .0))
+  unfolding conflict meet sending receiving near
+  conflict-parts t u p q sender receiver =
       let a : ℕ = t .sender .0 in
       let b : ℕ = t .receiver .0 in
       let v : ℕ = u .sender .0 in
@@ -63,21 +67,23 @@ module _ (rows heard : List ℕ) where
         eqb-turned a w,
         eqb-turned b v,
         eqb-turned b w,
-        hears w (q .receiver .numbered),
+        sender w (q .receiver .numbered),
+        receiver v (q .sender .numbered),
       )
-      (reorder (eqb v a) (eqb w a) (eqb v b) (eqb w b) (disturbsIn rows v b) (disturbsIn rows a w))
+      (reorder (eqb v a) (eqb w a) (eqb v b) (eqb w b) (disturbsIn rows v b) (disturbsIn rows a w) (disturbsIn rows w a) (disturbsIn rows b v))
 
   module _ (h columns : List ℕ) (short : length h ≤ stepBytes * mostSteps) (c : Columns rows heard h (stepsIn h) columns) (all : AllWithin rows h) where
     pub marked-conflict :
         (t : Transmission) (b : ℕ)
         → Within rows t
         → Hears rows heard (t .sender .0)
+        → Hears rows heard (t .receiver .0)
         → b < stepsIn h
         → markedAt columns t b ≡ conflict (disturbsIn rows) t (fromEnd h b)
     unfolding markedAt
-    marked-conflict t b p hears l =
+    marked-conflict t b p sender receiver l =
         rw (c .sent (t .sender .0) b (p .sender .numbered), c .received (t .receiver .0) b (p .receiver .numbered) (omega arith), lt-ltb b (stepsIn h) l)
-        (sym (conflict-parts t (fromEnd h b) p (all (stepsIn h - suc b) (omega arith)) hears))
+        (sym (conflict-parts t (fromEnd h b) p (all (stepsIn h - suc b) (omega arith)) sender receiver))
 
     pub columns-narrow : Narrow (stepsIn h) columns
     unfolding markedAt
@@ -90,13 +96,13 @@ pub figure-by-columns :
     → Columns rows heard l (stepsIn l) columns
     → AllWithin rows l
     → AllWithin rows h
-    → ((j : ℕ) → j < stepsIn h → Hears rows heard (stepIn h j .sender .0))
+    → ((j : ℕ) → j < stepsIn h → Hears rows heard (stepIn h j .sender .0) × Hears rows heard (stepIn h j .receiver .0))
     → worstPath (matrixBy columns (stepsIn l) h) (stepsIn l) (stepsIn h) ≡ worstPath (marksOf rows l h) (stepsIn l) (stepsIn h)
 figure-by-columns rows heard l h columns short c all other hears =
     let n : ℕ = stepsIn l in
     paths-agree (matrixBy columns n h) (marksOf rows l h) n (stepsIn h)
     (λ i j p q.
     let back : n - suc (n - suc i) ≡ i = omega arith in
-    marked-conflict rows heard l columns short c all (stepIn h j) (n - suc i) (other j (omega arith)) (hears j q) (omega arith)
+    marked-conflict rows heard l columns short c all (stepIn h j) (n - suc i) (other j (omega arith)) (hears j q .0) (hears j q .1) (omega arith)
     ∙ ap (λ (k : ℕ). conflict (disturbsIn rows) (stepIn h j) (stepIn l k)) back
     ∙ conflict-symmetric (disturbsIn rows) (stepIn h j) (stepIn l i))

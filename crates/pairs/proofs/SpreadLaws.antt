@@ -192,8 +192,8 @@ module _ (u : Transmission) where
 
   pub noted :
       (rows heard : List ℕ) (b receivers senders : ℕ) (before between after : List ℕ)
-      → ((x : ℕ) → x < mostNodes → bit receivers x ≡ receiving rows u x)
-      → ((x : ℕ) → bit senders x ≡ sending heard u x)
+      → ((x : ℕ) → x < mostNodes → bit receivers x ≡ receiving rows heard u x)
+      → ((x : ℕ) → x < mostNodes → bit senders x ≡ sending rows heard u x)
       → Spread receivers (2 ^ b) before between
       → Spread senders (2 ^ (mostSteps + b)) between after
       → Noted rows heard u b before after
@@ -204,7 +204,7 @@ module _ (u : Transmission) where
             λ x y h.
             spread-bit senders (mostSteps + b) between after q x y
             ∙ ap₂ (λ (t v : Bool). t || (eqb (mostSteps + b) y && v))
-            (spread-bit receivers b before between p x y ∙ ap (λ (t : Bool). bit (getD before x 0) y || (eqb b y && t)) (is x h)) (has x);
+            (spread-bit receivers b before between p x y ∙ ap (λ (t : Bool). bit (getD before x 0) y || (eqb b y && t)) (is x h)) (has x h);
         others = λ x h. q .others x h ∙ p .others x h;
       }
 
@@ -221,14 +221,14 @@ module _ (rows heard plan : List ℕ) (b : ℕ) (before after : List ℕ) where
             λ x k h m.
             n .bits x k h
             ∙ rw (ne-eqb (mostSteps + b) k (λ e. omega arith), c .received x k h m)
-            (or-false ((ltb k b && receiving rows (fromEnd plan k) x) || (eqb b k && receiving rows (fromEnd plan b) x)))
-            ∙ upto-next (λ (i : ℕ). receiving rows (fromEnd plan i) x) b k;
+            (or-false ((ltb k b && receiving rows heard (fromEnd plan k) x) || (eqb b k && receiving rows heard (fromEnd plan b) x)))
+            ∙ upto-next (λ (i : ℕ). receiving rows heard (fromEnd plan i) x) b k;
         sent =
             λ x k h.
             n .bits x (mostSteps + k) h
             ∙ rw (ne-eqb b (mostSteps + k) (λ e. omega arith), shifted k, c .sent x k h)
-            (ap (λ (t : Bool). t || (eqb b k && sending heard (fromEnd plan b) x)) (or-false (ltb k b && sending heard (fromEnd plan k) x)))
-            ∙ upto-next (λ (i : ℕ). sending heard (fromEnd plan i) x) b k;
+            (ap (λ (t : Bool). t || (eqb b k && sending rows heard (fromEnd plan b) x)) (or-false (ltb k b && sending rows heard (fromEnd plan k) x)))
+            ∙ upto-next (λ (i : ℕ). sending rows heard (fromEnd plan i) x) b k;
       }
     where
       shifted : (k : ℕ) → eqb (mostSteps + b) (mostSteps + k) ≡ eqb b k

@@ -47,13 +47,17 @@ pub record Heard (rows : List ℕ) (nodes : ℕ) (before after : List ℕ) : Typ
 abbrev pub Hears : List ℕ → List ℕ → ℕ → Type 0
 Hears rows heard x = (y : ℕ) → y < mostNodes → bit (getD heard y 0) x ≡ disturbsIn rows x y
 
--- what node x receives conflicts with a transmission if x is one of its nodes, or its sender disturbs x
-unfoldable pub receiving : List ℕ → Transmission → ℕ → Bool
-receiving rows u x = eqb (u .sender .0) x || eqb (u .receiver .0) x || disturbsIn rows (u .sender .0) x
+-- y disturbs x, or hears it
+unfoldable pub near : List ℕ → List ℕ → ℕ → ℕ → Bool
+near rows heard y x = disturbsIn rows y x || bit (getD heard y 0) x
 
--- what node x sends conflicts with it if x is one of its nodes, or is among those that its receiver hears
-unfoldable pub sending : List ℕ → Transmission → ℕ → Bool
-sending heard u x = eqb (u .sender .0) x || eqb (u .receiver .0) x || bit (getD heard (u .receiver .0) 0) x
+-- what node x receives conflicts with a transmission if x is one of its nodes, or its sender disturbs x or hears it
+unfoldable pub receiving : List ℕ → List ℕ → Transmission → ℕ → Bool
+receiving rows heard u x = eqb (u .sender .0) x || eqb (u .receiver .0) x || near rows heard (u .sender .0) x
+
+-- what node x sends conflicts with it if x is one of its nodes, or its receiver disturbs x or hears it
+unfoldable pub sending : List ℕ → List ℕ → Transmission → ℕ → Bool
+sending rows heard u x = eqb (u .sender .0) x || eqb (u .receiver .0) x || near rows heard (u .receiver .0) x
 
 -- the columns of a plan, a number for each node: its lower bits are the steps that conflict with what the node receives, the others those
 -- that conflict with what it sends; each by its test, of the last k steps
@@ -62,7 +66,7 @@ pub record ColumnsBy (receives sends : Transmission → ℕ → Bool) (plan : Li
   pub sent : (x b : ℕ) → x < mostNodes → bit (getD columns x 0) (mostSteps + b) ≡ (ltb b k && sends (fromEnd plan b) x)
 
 abbrev pub Columns : List ℕ → List ℕ → List ℕ → ℕ → List ℕ → Type 0
-Columns rows heard = ColumnsBy (receiving rows) (sending heard)
+Columns rows heard = ColumnsBy (receiving rows heard) (sending rows heard)
 
 -- a transmission conflicts, by the columns, with step b from the end
 unfoldable pub markedAt : List ℕ → Transmission → ℕ → Bool
@@ -84,7 +88,7 @@ pub record Noted (rows heard : List ℕ) (u : Transmission) (b : ℕ) (before af
       (x y : ℕ)
       → x < mostNodes
       → bit (getD after x 0) y
-      ≡ (bit (getD before x 0) y || (eqb b y && receiving rows u x) || (eqb (mostSteps + b) y && sending heard u x))
+      ≡ (bit (getD before x 0) y || (eqb b y && receiving rows heard u x) || (eqb (mostSteps + b) y && sending rows heard u x))
   pub others : (x : ℕ) → mostNodes ≤ x → getD after x 0 ≡ getD before x 0
 
 -- the columns of a whole plan. What lies beyond them stays

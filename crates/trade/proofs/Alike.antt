@@ -1,9 +1,9 @@
 -- Facts that say the same of their first k flows: by measures that agree on them, these flows have the same bounds, whatever stands
--- below them. How a conflict is made is known here only to the law that says what it reads. Leans on Interference, Sums and Valid.
+-- below them. Leans on Conflict, Interference, Sums and Valid.
 -- Assumes nothing.
 use Prim.Native.Nat.{ℕ, suc, _+_, _<_}
 use mathlib.Core.Path.{_≡_, refl, _∙_, ap, ap₂}
-use mathlib.Core.Bool.{Bool, not}
+use mathlib.Core.Bool.{not}
 use mathlib.Core.List.{List}
 use native.Mathlib.Omega.{arith}
 use lib.Dec.{leb}
@@ -15,9 +15,9 @@ use Rattle.trade.specs.Conflict.{conflict}
 use Rattle.trade.specs.Interference.{matrix, worstPath, interference}
 use Rattle.trade.specs.Bound.{Measure, byInterference, measure, slotsNeeded, admissible, boundBy, boundlessBy, acceptedBy, code9By}
 use Rattle.trade.specs.Calls.{boundsBy}
-use Rattle.trade.specs.declared.node.Transmission.{Transmission}
 use Rattle.trade.proofs.First.{first-cong, some-cong}
 use Rattle.trade.proofs.Sums.{sum-cong, listTo-same}
+use Rattle.trade.proofs.Conflict.{conflict-same}
 use Rattle.trade.proofs.Interference.{paths-agree}
 use Rattle.trade.proofs.Answers.{givenFirst-same}
 use Rattle.trade.proofs.Valid.{Placed}
@@ -60,20 +60,6 @@ alike-counts k n m n′ m′ rows records steps =
       steps = λ i j h l. refl;
       conflicts = λ l h i j p q u v. refl;
     }
-
--- a conflict reads no more than who disturbs whom between the nodes of its two steps
-conflict-same :
-    (n : ℕ) (d e : ℕ → ℕ → Bool) (t u : Transmission)
-    → ((x y : ℕ) → x < n → y < n → d x y ≡ e x y)
-    → Placed n t
-    → Placed n u
-    → conflict d t u ≡ conflict e t u
-unfolding conflict
-conflict-same n d e t u same p q =
-    cc (
-      same (u .sender .0) (t .receiver .0) (q .sender) (p .receiver),
-      same (t .sender .0) (u .receiver .0) (p .sender) (q .receiver),
-    )
 
 -- so the same steps conflict alike where they are placed among nodes that disturb one another alike
 pub conflicts-placed :

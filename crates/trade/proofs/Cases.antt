@@ -115,6 +115,7 @@ cases-hold =
       case9 = refl;
       case10-free = refl;
       case10-conflict = refl;
+      case10-acknowledged = refl;
       case11-length = refl;
       case11-accepted = refl;
       case11-started = refl;

@@ -1,5 +1,5 @@
--- Conflict is symmetric, and what a conflict-free set is by its pairs. Leans on First. Assumes nothing.
-use Prim.Native.Nat.{ℕ}
+-- Conflict is symmetric, what it reads, and what a conflict-free set is by its pairs. Leans on First and Valid. Assumes nothing.
+use Prim.Native.Nat.{ℕ, _<_}
 use mathlib.Core.Path.{_≡_, refl, sym, _∙_, ap}
 use mathlib.Core.Bool.{Bool, true, false, not, _||_}
 use mathlib.Core.Logic.{⊎-elim}
@@ -9,6 +9,7 @@ use borrow.Author.Tests.{eqb-true, eqb-false, eq-eqb, ne-eqb, not-true}
 use Rattle.trade.specs.Conflict.{meet, conflict, conflictsWith, conflictFree}
 use Rattle.trade.proofs.First.{bool-cases, and-true, or-false}
 use Rattle.trade.specs.declared.node.Transmission.{Transmission}
+use Rattle.trade.proofs.Valid.{Placed}
 
 pub eqb-comm : (a b : ℕ) → eqb a b ≡ eqb b a
 eqb-comm a b =
@@ -40,14 +41,33 @@ meet-comm a b c d =
     swap-six (eqb a b) (eqb c d) (eqb a c) (eqb a d) (eqb b c) (eqb b d)
     ∙ simp (eqb-comm a c, eqb-comm a d, eqb-comm b c, eqb-comm b d)
 
--- conflict is symmetric, though disturbance is not
+-- conflict is symmetric, though disturbance is not: what is asked of the one way round is asked of the other
 pub conflict-symmetric : (disturbs : ℕ → ℕ → Bool) (t u : Transmission) → conflict disturbs t u ≡ conflict disturbs u t
 unfolding conflict
 conflict-symmetric disturbs t u =
-    ap (λ (m : Bool). m || disturbs (u .sender .0) (t .receiver .0) || disturbs (t .sender .0) (u .receiver .0))
-    (meet-comm (t .sender .0) (t .receiver .0) (u .sender .0) (u .receiver .0))
-    ∙ swap-last (meet (u .sender .0) (u .receiver .0) (t .sender .0) (t .receiver .0)) (disturbs (u .sender .0) (t .receiver .0))
-    (disturbs (t .sender .0) (u .receiver .0))
+    let a : ℕ = t .sender .0 in
+    let b : ℕ = t .receiver .0 in
+    let c : ℕ = u .sender .0 in
+    let d : ℕ = u .receiver .0 in
+    swap-last (meet a b c d || disturbs c b || disturbs a d) (disturbs d a) (disturbs b c)
+    ∙ ap (λ (m : Bool). m || disturbs b c || disturbs d a)
+    (swap-last (meet a b c d) (disturbs c b) (disturbs a d) ∙ ap (λ (m : Bool). m || disturbs a d || disturbs c b) (meet-comm a b c d))
+
+-- a conflict reads no more than who disturbs whom between the nodes of its two steps
+pub conflict-same :
+    (n : ℕ) (d e : ℕ → ℕ → Bool) (t u : Transmission)
+    → ((x y : ℕ) → x < n → y < n → d x y ≡ e x y)
+    → Placed n t
+    → Placed n u
+    → conflict d t u ≡ conflict e t u
+unfolding conflict
+conflict-same n d e t u same p q =
+    cc (
+      same (u .sender .0) (t .receiver .0) (q .sender) (p .receiver),
+      same (t .sender .0) (u .receiver .0) (p .sender) (q .receiver),
+      same (u .receiver .0) (t .sender .0) (q .receiver) (p .sender),
+      same (t .receiver .0) (u .sender .0) (p .receiver) (q .sender),
+    )
 
 -- a transmission that conflicts with none of a conflict-free set can join it
 conflicts-snoc :

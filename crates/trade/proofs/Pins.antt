@@ -6,7 +6,7 @@ use mathlib.Core.List.{[], _∷_}
 use native.Mathlib.Omega.{arith}
 use Rattle.trade.specs.Bytes.{Bytes}
 use Rattle.trade.specs.Facts.{flowIn}
-use Rattle.trade.specs.Pins.{noMark, noNodes, badDistance, ownBit, noId, longerPlan, jump, tooTight, distances, stepTwo, trailerOfThree, counted, recorded, starts, advances, areaWith, ofOne, formedOfOne, alike, bookOf4, fullTable, meets, blocked, releasesAt, due, adds, removes, writes, withSteps, Pins}
+use Rattle.trade.specs.Pins.{noMark, noNodes, badDistance, ownBit, noId, longerPlan, jump, tooTight, distances, stepTwo, trailerOfThree, counted, recorded, starts, advances, areaWith, ofOne, formedOfOne, alike, bookOf4, fullTable, meets, blocked, disturbed, releasesAt, due, adds, removes, writes, withSteps, Pins}
 use Rattle.trade.proofs.Cases.{computed}
 
 most-byte : Bytes (0xff ∷ [])
@@ -14,7 +14,7 @@ most-byte zero = omega arith
 most-byte (suc i) = omega arith
 
 pub pins-hold : Pins
-unfolding computed flowIn noMark noNodes badDistance ownBit noId longerPlan jump tooTight distances stepTwo trailerOfThree counted recorded starts advances areaWith ofOne formedOfOne alike bookOf4 fullTable meets blocked releasesAt due adds removes writes withSteps
+unfolding computed flowIn noMark noNodes badDistance ownBit noId longerPlan jump tooTight distances stepTwo trailerOfThree counted recorded starts advances areaWith ofOne formedOfOne alike bookOf4 fullTable meets blocked disturbed releasesAt due adds removes writes withSteps
 pins-hold =
     record {
       byte-255 = most-byte;
@@ -90,8 +90,8 @@ pins-hold =
       removed-last = refl;
       shared-node = refl;
       either-grant = refl;
-      one-way = refl;
-      other-way = refl;
+      each-way = refl;
+      like-to-like = refl;
       tighter-carry = refl;
       one-instance = refl;
       two-instances = refl;

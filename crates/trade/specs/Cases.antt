@@ -154,9 +154,10 @@ pub record Cases : Type 0 where
   -- 8. the run of book B, slots 5 to 11: run, as the listing of B in `cases`
   -- 9. the bare matrix: I = 5
   pub case9 : worstPath bare 4 6 ≡ 5
-  -- 10. 0-1 and 2-3: free with no disturbance; in conflict if 2 disturbs 1
+  -- 10. 0-1 and 2-3: free with no disturbance; in conflict if 2 disturbs 1; in conflict if only 1 disturbs 2
   pub case10-free : conflict noneDisturbs (sends 0 1) (sends 2 3) ≡ false
   pub case10-conflict : conflict (oneDisturbs 2 1) (sends 0 1) (sends 2 3) ≡ true
+  pub case10-acknowledged : conflict (oneDisturbs 1 2) (sends 0 1) (sends 2 3) ≡ true
   -- 11. one node, no flows: 18 bytes, accepted, every slot empty: started, each slot of the clock is done with no grant. And whatever
   -- area and buffer are lent, an advance that is done counts no grant and leaves the buffer as lent
   pub case11-length : length bookOfNone ≡ 18

@@ -122,6 +122,10 @@ meets a b c d = conflict noneDisturbs (sends a b) (sends c d)
 unfoldable pub blocked : ℕ → ℕ → ℕ → ℕ → Bool
 blocked a b c d = conflictsWith noneDisturbs (sends a b ∷ sends c d ∷ []) (sends 0 6)
 
+-- whether 0 to 1 and 2 to 3 conflict where only one node disturbs, and only one other
+unfoldable pub disturbed : ℕ → ℕ → Bool
+disturbed a b = conflict (oneDisturbs a b) (sends 0 1) (sends 2 3)
+
 -- what is due in a slot of book B, and whether flow 3 is
 unfoldable pub releasesAt : ℕ → Releases
 releasesAt slot = periodic (said bookB) (said bookB .phase) slot
@@ -269,9 +273,10 @@ pub record Pins : Type 0 where
       meets 0 0 2 3 ∷ meets 0 1 2 2 ∷ meets 0 1 0 3 ∷ meets 0 1 2 0 ∷ meets 0 1 1 3 ∷ meets 0 1 2 1 ∷ []
       ≡ replicate 6 true
   pub either-grant : blocked 0 1 2 3 ∷ blocked 2 3 0 1 ∷ blocked 2 3 4 5 ∷ [] ≡ true ∷ true ∷ false ∷ []
-  -- disturbance is one-way: with only 1 disturbing 2, 0-1 and 2-3 are free; with only 0 disturbing 3 they conflict
-  pub one-way : conflict (oneDisturbs 1 2) (sends 0 1) (sends 2 3) ≡ false
-  pub other-way : conflict (oneDisturbs 0 3) (sends 0 1) (sends 2 3) ≡ true
+  -- 0-1 and 2-3 conflict if a sender disturbs the other's receiver, or a receiver the other's sender, each of the four ways alone; two
+  -- senders may disturb each other, and so may two receivers
+  pub each-way : disturbed 2 1 ∷ disturbed 0 3 ∷ disturbed 3 0 ∷ disturbed 1 2 ∷ [] ≡ replicate 4 true
+  pub like-to-like : disturbed 0 2 ∷ disturbed 2 0 ∷ disturbed 1 3 ∷ disturbed 3 1 ∷ [] ≡ replicate 4 false
   -- D of flow 7 set to 6: bounds 3 and 5
   pub tighter-carry : checkOf (deadlineAt deadlineOf7 6 bookA) .bounds ≡ 3 ∷ 5 ∷ replicate 30 0
   -- of a flow above with P 10 and D 5, one instance counts in 6 slots, and two in 7

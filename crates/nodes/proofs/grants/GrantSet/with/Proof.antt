@@ -1,4 +1,4 @@
--- `nodes::grants::GrantSet::with` adds the nodes of the grant and the row of its sender. Assumes nothing.
+-- `nodes::grants::GrantSet::with` adds the nodes of the grant and their rows. Assumes nothing.
 use native.Mathlib.Omega.{arith}
 use Rattle.nodes.specs.Grants.{oneMore}
 use Rattle.nodes.proofs.GrantsLaws.{holds-more}
@@ -9,17 +9,17 @@ use Rattle.nodes.proofs.grants.GrantSet.with.Tie as tie
 returns : tie.Need-returns
 unfolding oneMore
 returns c =
-    let start = c .before .before .before .before .before .before .before .before in
-    let known = c .before .before .before .before .before .before .before .shared-slice-known in
-    let sender = c .before .before .before .before .before .before .only .ensures in
-    let receiver = c .before .before .before .before .only2 .ensures in
+    let start = c .before .before .before .before .before .before .before .before .before in
+    let known = c .before .before .before .before .before .before .before .before .shared-slice-known in
+    let sender = c .before .before .before .before .before .before .before .only .ensures in
+    let receiver = c .before .before .before .before .before .only2 .ensures in
     let row = c .before .before .before .row-mask .ensures in
-    let again = c .before .only3 .ensures in
+    let other = c .before .row-mask2 .ensures in
     record {
-      exact = rw (sender, receiver, row, again);
+      exact = rw (sender, receiver, row, other);
       holds =
           λ us h.
-          rw (sender, receiver, row, again)
+          rw (sender, receiver, row, other)
           (holds-more (start .args .rows .now) (λ i. omega (arith, known .given i)) (start .args .self) us (start .args .t) (start .pre) h);
     }
 

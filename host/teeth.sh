@@ -31,10 +31,25 @@ spoil bound.rs 's/bound > record.deadline/bound >= record.deadline/' "a bound th
 spoil bound.rs 's/u64::from(columns.marks(step))/((1 << len) - 1)/' "I as the length of the plan above"
 spoil bound.rs 's/charge(taken(&digits, end))/charge(words.map(|word| (word >> (end - len) \& ((1 << len) - 1)).count_ones()).iter().sum())/' "I as the number of marks"
 spoil bound.rs 's/has_bound(record, above)/has_bound(record, \&mut above[l.saturating_sub(1)..])/' "only the flow just above in the bound"
-spoil bound.rs 's/for_each_node(book.row(node as u8) & receivers/for_each_node(0 \& receivers/' "the bound blind to one direction of disturbance"
-spoil slot.rs 's/(self.disturbed & bit(receiver))/(self.disturbed \& ends)/' "disturbance that reaches senders"
-spoil slot.rs 's/| (self.receivers & row)//' "a slot blind to one direction of disturbance"
-spoil slot.rs 's/self.receivers |= bit/self.receivers = bit/' "only the grant just made"
+
+# What a node of the plan disturbs, and what a node asked for does. In the upper half of a part are the steps that are sent.
+own='self.nodes\[disturbed\] |= part'
+above='\*column |= parts\[disturbed\]'
+spoil bound.rs "s/$own/& << UPPER >> UPPER/" "a bound where its own senders disturb no receiver"
+spoil bound.rs "s/$own/& >> UPPER << UPPER/" "a bound where its own receivers disturb no sender"
+spoil bound.rs "s/$above/& >> UPPER << UPPER/" "a bound where senders above disturb no receiver"
+spoil bound.rs "s/$above/& << UPPER >> UPPER/" "a bound where receivers above disturb no sender"
+spoil bound.rs "s/$own/& >> UPPER << UPPER/; s/$above/& << UPPER >> UPPER/" "a bound without acknowledgements, with slots that have them"
+spoil bound.rs "s/$above/& | parts[disturbed] >> UPPER/" "two senders in conflict in the bound"
+spoil bound.rs "s/$above/& | parts[disturbed] << UPPER/" "two receivers in conflict in the bound"
+
+spoil slot.rs 's/from | to | sender_row/from | to/' "a slot where its senders disturb no receiver"
+spoil slot.rs 's/from | to | receiver_row/from | to/' "a slot where its receivers disturb no sender"
+spoil slot.rs 's/(self.receivers & sender_row) | //' "a slot where a further sender disturbs no receiver"
+spoil slot.rs 's/ | (self.senders & receiver_row)//' "a slot where a further receiver disturbs no sender"
+spoil slot.rs 's/self.receivers & sender_row/(self.receivers | self.senders) \& sender_row/' "two senders in conflict in the slot"
+spoil slot.rs 's/self.senders & receiver_row/(self.senders | self.receivers) \& receiver_row/' "two receivers in conflict in the slot"
+spoil slot.rs 's/^\( *self.[a-z_]*\) |= /\1 = /' "only the grant just made"
 spoil slot.rs 's/slot > END_OF_SLOTS/slot >= END_OF_SLOTS/' "4,000,000,000 as a malformed slot"
 spoil slot.rs 's/record.phase >= slot/record.phase > slot/' "an unfinished flow in the slot of its phase"
 spoil slot.rs 's/done > len ||/done > len + 1 ||/' "a byte one above L"

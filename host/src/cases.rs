@@ -116,18 +116,33 @@ fn run_of_b(planner: &dyn Planner) -> Result<(), String> {
     same("flow 3", slots_of(&lines, 3), vec![6, 7, 8, 9, 11])
 }
 
-/// 0-1 and 2-3 go in one slot unless 2 disturbs 1 or 0 disturbs 3; what a receiver disturbs does not count.
+/// 0-1 and 2-3 are free with no disturbance. One alone makes them conflict if it goes from a sender to the other's
+/// receiver or, for the acknowledgements, from a receiver to the other's sender, and not if both send or both receive.
 fn conflict(planner: &dyn Planner) -> Result<(), String> {
     let flow = |id, sender| DraftFlow { id, phase: 0, period: 9, deadline: 9, plan: vec![(sender, sender + 1)] };
-    for (who, whom, second) in [(9, 0, 0), (2, 1, 1), (0, 3, 1), (1, 2, 0), (3, 0, 0)] {
-        let mut draft = Draft { rows: vec![0; 4], flows: vec![flow(1, 0), flow(2, 2)] };
-        if who < 4 {
+    let quiet = Draft { rows: vec![0; 4], flows: vec![flow(1, 0), flow(2, 2)] };
+    waits(planner, &quiet, false).map_err(|what| format!("with no disturbance, {what}"))?;
+    for who in 0..4 {
+        for whom in (0..4).filter(|&whom| whom != who) {
+            let mut draft = quiet.clone();
             draft.rows[who] |= 1 << whom;
+            let clash = [(2, 1), (0, 3), (1, 2), (3, 0)].contains(&(who, whom));
+            waits(planner, &draft, clash).map_err(|what| format!("if only {who} disturbs {whom}, {what}"))?;
         }
-        let lines = run(planner, &draft, 2)?;
-        same(&format!("2-3 when {who} disturbs {whom}"), slots_of(&lines, 2), vec![second])?;
     }
     Ok(())
+}
+
+/// Whether the second of two flows of one step waits for the first, in the run and in its bound.
+fn waits(planner: &dyn Planner, draft: &Draft, clash: bool) -> Result<(), String> {
+    let lines = run(planner, draft, 2)?;
+    same("slots of flow 2", slots_of(&lines, 2), vec![u32::from(clash)])?;
+    if clash {
+        return has_bound(planner, draft, 1, 3);
+    }
+    let mut cut = draft.clone();
+    cut.flows[1].deadline = 1;
+    same("check with deadline 1", planner.check(&cut.bytes()), accepted())
 }
 
 fn one_node(planner: &dyn Planner) -> Result<(), String> {

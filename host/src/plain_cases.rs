@@ -3,7 +3,7 @@
 use crate::answer::*;
 use crate::cases::same;
 use crate::dice::Dice;
-use crate::draft::{book_a, book_b};
+use crate::draft::{book_a, book_b, Draft};
 use crate::generate::{accepted, any, regular, MIDDLE, SMALL};
 use crate::limits::*;
 use crate::plain::book::Record;
@@ -18,6 +18,7 @@ pub const PLAIN_CASES: &[PlainCase] = &[
     ("2, I(9,7) and its conflicts", interference_of_a),
     ("3 and 6, bounds as figures", bounds_of_both),
     ("9, a bare matrix", bare_matrix),
+    ("10, 0-1 and 2-3 in both orders", one_disturbance),
     ("the two ways to the interference agree", both_ways),
     ("a written book reads back", round_trip),
     ("codes of writing", codes_of_writing),
@@ -54,6 +55,21 @@ fn bare_matrix() -> Result<(), String> {
     let matrix: Matrix = marks.iter().map(|row| (0..6).map(|column| row.contains(&column)).collect()).collect();
     same("by choices", by_choices(&matrix), 5)?;
     same("by recursion", by_recursion(&matrix), 5)
+}
+
+fn one_disturbance() -> Result<(), String> {
+    let crossing = [(0, 3), (3, 0), (1, 2), (2, 1)];
+    let harmless = [(0, 2), (2, 0), (1, 3), (3, 1), (0, 1), (1, 0), (2, 3), (3, 2)];
+    for (pairs, conflict) in [(&crossing[..], true), (&harmless[..], false)] {
+        for &(who, whom) in pairs {
+            let mut draft = Draft { rows: vec![0; 4], flows: Vec::new() };
+            draft.rows[who] |= 1 << whom;
+            let facts = draft.facts();
+            let found = [facts.conflict((0, 1), (2, 3)), facts.conflict((2, 3), (0, 1))];
+            same(&format!("only {who} disturbs {whom}"), found, [conflict; 2])?;
+        }
+    }
+    Ok(())
 }
 
 fn both_ways() -> Result<(), String> {

@@ -101,11 +101,25 @@ impl Log {
         demand(buffer[used..].iter().all(|&byte| byte == UNTOUCHED), || "bytes behind the grants changed".to_string())?;
         let grants: Vec<Grant> =
             buffer[..used].chunks(GRANT_BYTES).map(|bytes| self.read_grant(bytes)).collect::<Result<_, _>>()?;
-        for (k, grant) in grants.iter().enumerate() {
-            let meets = |other: &Grant| self.facts.conflict(grant.transmission, other.transmission);
-            demand(!grants[..k].iter().any(meets), || format!("grant {k} conflicts with an earlier one"))?;
+        grants.iter().try_for_each(|grant| self.enter(slot, grant))?;
+        self.undisturbed(&grants)
+    }
+
+    /// The slot on the air: all senders at once, then all receivers with their acknowledgements. No node has two parts in
+    /// it, and none is disturbed while it listens to another.
+    fn undisturbed(&self, grants: &[Grant]) -> Result<(), String> {
+        let (senders, receivers): (Vec<usize>, Vec<usize>) = grants.iter().map(|grant| grant.transmission).unzip();
+        let nodes: HashSet<&usize> = senders.iter().chain(&receivers).collect();
+        demand(nodes.len() == 2 * grants.len(), || "a node has two parts".to_string())?;
+        for (talking, listening) in [(&senders, &receivers), (&receivers, &senders)] {
+            for (k, &listener) in listening.iter().enumerate() {
+                for (j, &talker) in talking.iter().enumerate() {
+                    let disturbed = j != k && self.facts.disturbs[talker][listener];
+                    demand(!disturbed, || format!("{talker} disturbs {listener}, which listens to another"))?;
+                }
+            }
         }
-        grants.iter().try_for_each(|grant| self.enter(slot, grant))
+        Ok(())
     }
 
     /// One grant: the next step of an instance that is released, in a slot of its own, within the bound.

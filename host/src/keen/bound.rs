@@ -4,25 +4,29 @@ use super::book::{bit, Book, Record};
 use crate::answer::*;
 use crate::limits::*;
 
-/// For one flow's plan, the steps (as bits) that a transmission from or to each node conflicts with. A step that repeats
-/// the one before it has no bit of its own: to choose it is to choose that one.
+/// For one flow's plan, a word for each node: in its lower half the steps (as bits) that conflict with what the node sends,
+/// in its upper half those that conflict with what it receives. A step that repeats the one before it has no bit of its
+/// own: to choose it is to choose that one.
 struct Columns {
-    by_sender: [u32; MAX_NODES],
-    by_receiver: [u32; MAX_NODES],
+    nodes: [u64; MAX_NODES],
     /// How many steps have a bit.
     len: u32,
 }
 
+/// Where the upper half of a word starts.
+const UPPER: u32 = u32::BITS;
+
 impl Columns {
     fn blank() -> Columns {
-        Columns { by_sender: [0; MAX_NODES], by_receiver: [0; MAX_NODES], len: 0 }
+        Columns { nodes: [0; MAX_NODES], len: 0 }
     }
 
     /// The columns of a plan, complete for the nodes that are asked for.
     fn gather(&mut self, book: &Book, plan: &[u8], asked: u64) {
-        // The plan's steps that each node receives, and the nodes that receive any.
-        let mut received = [0u32; MAX_NODES];
-        let mut receivers = 0;
+        // The part of each node in the plan: in the lower half the steps that it receives, in the upper those that it sends.
+        // The words of the nodes that it disturbs, and of those that disturb it, have these halves as they are.
+        let mut parts = [0u64; MAX_NODES];
+        let mut taking_part = 0;
         // No step goes from a node to itself.
         let mut last = [0; STEP_BYTES];
         for step in plan.chunks_exact(STEP_BYTES) {
@@ -30,25 +34,27 @@ impl Columns {
                 continue;
             }
             last = [step[0], step[1]];
-            let mine = 1 << self.len;
+            parts[usize::from(step[0]) % MAX_NODES] |= 1 << UPPER << self.len;
+            parts[usize::from(step[1]) % MAX_NODES] |= 1 << self.len;
+            taking_part |= bit(step[0]) | bit(step[1]);
             self.len += 1;
-            for node in last {
-                self.by_sender[usize::from(node) % MAX_NODES] |= mine;
-                self.by_receiver[usize::from(node) % MAX_NODES] |= mine;
-            }
-            for_each_node(book.row(step[0]) & asked, |node| self.by_receiver[node] |= mine);
-            received[usize::from(step[1]) % MAX_NODES] |= mine;
-            receivers |= bit(step[1]);
         }
+        for_each_node(taking_part, |node| {
+            let part = parts[node];
+            // Whatever it does itself conflicts with both.
+            self.nodes[node] |= part | part.rotate_left(UPPER);
+            for_each_node(book.row(node as u8) & asked, |disturbed| self.nodes[disturbed] |= part);
+        });
         for_each_node(asked, |node| {
-            let sent = &mut self.by_sender[node];
-            for_each_node(book.row(node as u8) & receivers, |disturbed| *sent |= received[disturbed]);
+            let column = &mut self.nodes[node];
+            for_each_node(book.row(node as u8) & taking_part, |disturbed| *column |= parts[disturbed]);
         });
     }
 
     /// The steps that a step of another plan conflicts with.
     fn marks(&self, step: &[u8]) -> u32 {
-        self.by_sender[usize::from(step[0]) % MAX_NODES] | self.by_receiver[usize::from(step[1]) % MAX_NODES]
+        let [sender, receiver] = [step[0], step[1]].map(|node| self.nodes[usize::from(node) % MAX_NODES]);
+        sender as u32 | (receiver >> UPPER) as u32
     }
 }
 

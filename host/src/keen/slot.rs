@@ -4,24 +4,30 @@ use super::book::{bit, Book, Record};
 use crate::answer::*;
 use crate::limits::*;
 
-/// The grants of one slot as three sets of nodes.
+/// The grants of one slot as sets of nodes.
 #[derive(Default)]
 struct GrantSet {
-    busy: u64,
+    senders: u64,
     receivers: u64,
-    disturbed: u64,
+    /// The nodes of the grants, and those that a receiver disturbs.
+    cannot_send: u64,
+    /// The nodes of the grants, and those that a sender disturbs.
+    cannot_receive: u64,
 }
 
 impl GrantSet {
-    /// Takes the transmission in unless it conflicts with one that is in already.
-    fn take(&mut self, sender: u8, receiver: u8, row: u64) -> bool {
-        let ends = bit(sender) | bit(receiver);
-        if (self.busy & ends) | (self.disturbed & bit(receiver)) | (self.receivers & row) != 0 {
+    /// Takes the transmission in unless it conflicts with one that is in already. The rows are those of its two nodes.
+    fn take(&mut self, sender: u8, receiver: u8, sender_row: u64, receiver_row: u64) -> bool {
+        let (from, to) = (bit(sender), bit(receiver));
+        let barred = (self.cannot_send & from) | (self.cannot_receive & to);
+        let bars = (self.receivers & sender_row) | (self.senders & receiver_row);
+        if barred | bars != 0 {
             return false;
         }
-        self.busy |= ends;
-        self.receivers |= bit(receiver);
-        self.disturbed |= row;
+        self.senders |= from;
+        self.receivers |= to;
+        self.cannot_send |= from | to | receiver_row;
+        self.cannot_receive |= from | to | sender_row;
         true
     }
 }
@@ -71,7 +77,7 @@ impl Book<'_> {
             let Some(&[sender, receiver]) = plan.get(at..at + STEP_BYTES) else {
                 continue;
             };
-            if set.take(sender, receiver, self.row(sender)) {
+            if set.take(sender, receiver, self.row(sender), self.row(receiver)) {
                 let grant = &mut grants[GRANT_BYTES * count..][..GRANT_BYTES];
                 grant[..2].copy_from_slice(&self.records[RECORD_BYTES * i..][..2]);
                 grant[2..6].copy_from_slice(&instances[i].to_be_bytes());

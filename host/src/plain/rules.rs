@@ -12,10 +12,12 @@ pub type Matrix = Vec<Vec<bool>>;
 const CHOICES_TRIED: u64 = 500;
 
 impl Facts {
-    /// A to B and C to D conflict if the four nodes are not all distinct, or C disturbs B, or A disturbs D.
+    /// A to B and C to D conflict if the four nodes are not all distinct, or C disturbs B, or A disturbs D; and, since B
+    /// and D acknowledge in the same slot, if D disturbs A, or B disturbs C.
     pub fn conflict(&self, (a, b): Transmission, (c, d): Transmission) -> bool {
         let pairs = [(a, b), (a, c), (a, d), (b, c), (b, d), (c, d)];
-        pairs.iter().any(|(x, y)| x == y) || self.disturbs[c][b] || self.disturbs[a][d]
+        let heard = [(c, b), (a, d), (d, a), (b, c)];
+        pairs.iter().any(|(x, y)| x == y) || heard.iter().any(|&(x, y)| self.disturbs[x][y])
     }
 
     fn matrix(&self, l: &Flow, h: &Flow) -> Matrix {

@@ -1,12 +1,12 @@
 -- Marks spread over the nodes of sets, and collected from them: the columns of a plan. Leans on Bits and Counts. Assumes nothing.
 use Prim.Native.Nat.{ℕ, suc, _+_, _-_, _/_, _%_, _^_, _≤_, _<_}
 use mathlib.Core.Path.{_≡_, refl, sym, _∙_, ap, ap₂}
-use mathlib.Core.Bool.{Bool, true, false, not, cond, _&&_, _||_, or-comm, or-false}
+use mathlib.Core.Bool.{Bool, true, false, not, cond, _&&_, _||_, or-comm, or-false, or-assoc, and-false, and-true}
 use mathlib.Core.Logic.{_⊎_, inl, inr, ⊎-elim}
 use mathlib.Core.List.{List}
 use native.Mathlib.Omega.{arith}
 use borrow.Author.Tests.{eqb-true, eq-eqb, ne-eqb, lt-ltb, le-ltb}
-use lib.Bits.{bitOr, bitAnd, or-zero-r}
+use lib.Bits.{bitOr, bitAnd, bitXor, or-zero-r}
 use lib.Dec.{eqb, ltb}
 use lib.Pow.{pow-pos, shr-shr, split}
 use native.Mathlib.Nat.{mod-lt}
@@ -20,8 +20,8 @@ use Rattle.trade.specs.declared.node.Transmission.{Transmission}
 use Rattle.trade.proofs.First.{lt-or-ge, bool-cases, some-true, some-false, some-intro, some-none}
 use Rattle.nodes.specs.Mask.{only, rowMask}
 use Rattle.pairs.specs.Columns.{Spread, fromEnd, ending, Heard, receiving, sending, Columns, Noted}
-use Rattle.nodes.proofs.MaskLaws.{bit-none, bit-or, bit-only, bit-below, bit-past}
-use Rattle.nodes.proofs.LowestLaws.{Lowest, and-false, and-true}
+use Rattle.nodes.proofs.MaskLaws.{bit-none, bit-or, bit-and, bit-xor, bit-only, bit-below, bit-past}
+use Rattle.nodes.proofs.LowestLaws.{Lowest}
 
 -- so many zeros, and zeros past them
 pub zeros : (n i : ℕ) → getD {A = ℕ} (replicate n 0) i 0 ≡ 0
@@ -29,6 +29,14 @@ zeros n i =
     ⊎-elim (λ (h : i < n). getD-replicate n i 0 0 h)
     (λ (h : n ≤ i). List·getD-eq-default (replicate n 0) 0 (rw (length-replicate {A = ℕ} n 0) h))
     (lt-or-ge i n)
+
+-- what is left without its lowest is left
+left-over : (rest p : ℕ) → Lowest rest p → (x : ℕ) → bit (bitAnd rest (rest - 1)) x ≡ true → bit rest x ≡ true
+left-over rest p low x e = both (bit rest x) (sym (low .cleared x) ∙ e)
+  where
+    both : (a : Bool) → (a && not (eqb p x)) ≡ true → a ≡ true
+    both true e = refl
+    both false e = e
 
 -- a mark spread over the nodes that are not left
 pub record Spreading (nodes mark rest : ℕ) (before table : List ℕ) : Type 0 where
@@ -54,14 +62,10 @@ module _ (nodes mark : ℕ) (before : List ℕ) where
   spreading-more rest p table low l s =
       record {
         size = length-set table p (bitOr (getD table p 0) mark) ∙ s .size;
-        within = λ x e. s .within x (first (bit rest x) (not (eqb p x)) (sym (low .cleared x) ∙ e));
+        within = λ x e. s .within x (left-over rest p low x e);
         marked = λ x. other x (lt-or-ge x p) (lt-or-ge p x);
       }
     where
-      first : (a b : Bool) → (a && b) ≡ true → a ≡ true
-      first true b e = refl
-      first false b e = e
-
       apart : (x : ℕ) → (p ≡ x → ⊥) → getD (set table p (bitOr (getD table p 0) mark)) x 0 ≡ bitOr (getD before x 0) (cond (bit nodes x && not (bit (bitAnd rest (rest - 1)) x)) mark 0)
       apart x n =
           let same : bit (bitAnd rest (rest - 1)) x ≡ bit rest x = low .cleared x ∙ rw (ne-eqb p x n) (and-true (bit rest x)) in
@@ -135,14 +139,6 @@ upto-next f x k = cases (lt-or-ge k x) (lt-or-ge x k)
         let e : x ≡ k = omega arith in
         rw (e, le-ltb k k (omega arith), eq-eqb k k refl, lt-ltb k (suc k) (omega arith)) refl
 
-or-true : (b : Bool) → (b || true) ≡ true
-or-true true = refl
-or-true false = refl
-
-or-three : (a b c : Bool) → ((a || b) || c) ≡ (a || (b || c))
-or-three true b c = refl
-or-three false b c = refl
-
 -- at some index, or at the next
 some-next : (test : ℕ → Bool) (n : ℕ) → some test (suc n) ≡ (some test n || test n)
 some-next test n =
@@ -188,25 +184,74 @@ module _ (u : Transmission) where
   ends-more nodes j test is s x =
       bit-or (bitOr nodes (only (u .sender .0))) (only (u .receiver .0)) x
       ∙ rw (bit-or nodes (only (u .sender .0)) x, bit-only (u .sender .0) x, bit-only (u .receiver .0) x, s x)
-      (or-three (some (λ i. test i x) j) (eqb (u .sender .0) x) (eqb (u .receiver .0) x) ∙ rw (← is x) (sym (some-next (λ i. test i x) j)))
+      (or-assoc (some (λ i. test i x) j) (eqb (u .sender .0) x) (eqb (u .receiver .0) x) ∙ rw (← is x) (sym (some-next (λ i. test i x) j)))
 
+  -- two marks, those of both sets spread first and at once
   pub noted :
-      (rows heard : List ℕ) (b receivers senders : ℕ) (before between after : List ℕ)
+      (rows heard : List ℕ) (b receivers senders : ℕ) (before shared between after : List ℕ)
       → ((x : ℕ) → x < mostNodes → bit receivers x ≡ receiving rows heard u x)
       → ((x : ℕ) → x < mostNodes → bit senders x ≡ sending rows heard u x)
-      → Spread receivers (2 ^ b) before between
-      → Spread senders (2 ^ (mostSteps + b)) between after
+      → Spread (bitAnd receivers senders) (bitOr (2 ^ b) (2 ^ (mostSteps + b))) before shared
+      → Spread (bitXor receivers (bitAnd receivers senders)) (2 ^ b) shared between
+      → Spread (bitXor senders (bitAnd receivers senders)) (2 ^ (mostSteps + b)) between after
       → Noted rows heard u b before after
-  noted rows heard b receivers senders before between after is has p q =
+  noted rows heard b receivers senders before shared between after is has o p q =
       record {
-        size = q .size ∙ p .size;
+        size = q .size ∙ p .size ∙ o .size;
         bits =
             λ x y h.
-            spread-bit senders (mostSteps + b) between after q x y
-            ∙ ap₂ (λ (t v : Bool). t || (eqb (mostSteps + b) y && v))
-            (spread-bit receivers b before between p x y ∙ ap (λ (t : Bool). bit (getD before x 0) y || (eqb b y && t)) (is x h)) (has x h);
-        others = λ x h. q .others x h ∙ p .others x h;
+            at x y
+            ∙ three (bit (getD before x 0) y) (bit receivers x) (bit senders x) (eqb b y) (eqb (mostSteps + b) y)
+            ∙ rw (is x h, has x h) refl;
+        others = λ x h. q .others x h ∙ p .others x h ∙ o .others x h;
       }
+    where
+      shared-bit : (x y : ℕ) → bit (getD shared x 0) y ≡ (bit (getD before x 0) y || ((eqb b y || eqb (mostSteps + b) y) && (bit receivers x && bit senders x)))
+      shared-bit x y =
+          ap (λ (n : ℕ). bit n y) (o .marked x)
+          ∙ bit-or (getD before x 0) (cond (bit (bitAnd receivers senders) x) (bitOr (2 ^ b) (2 ^ (mostSteps + b))) 0) y
+          ∙ rw (bit-and receivers senders x) (ap (λ (t : Bool). bit (getD before x 0) y || t) (marks (bit receivers x && bit senders x) y))
+        where
+          marks : (c : Bool) (y : ℕ) → bit (cond c (bitOr (2 ^ b) (2 ^ (mostSteps + b))) 0) y ≡ ((eqb b y || eqb (mostSteps + b) y) && c)
+          marks true y = bit-or (2 ^ b) (2 ^ (mostSteps + b)) y ∙ ap₂ _||_ (bit-only b y) (bit-only (mostSteps + b) y) ∙ sym (and-true (eqb b y || eqb (mostSteps + b) y))
+          marks false y = bit-none y ∙ sym (and-false (eqb b y || eqb (mostSteps + b) y))
+
+      at :
+          (x y : ℕ)
+          → bit (getD after x 0) y
+          ≡ (((bit (getD before x 0) y || ((eqb b y || eqb (mostSteps + b) y) && (bit receivers x && bit senders x)))
+          || (eqb b y && cond (bit receivers x) (not (bit receivers x && bit senders x)) (bit receivers x && bit senders x)))
+          || (eqb (mostSteps + b) y && cond (bit senders x) (not (bit receivers x && bit senders x)) (bit receivers x && bit senders x)))
+      at x y =
+          spread-bit (bitXor senders (bitAnd receivers senders)) (mostSteps + b) between after q x y
+          ∙ rw (
+            spread-bit (bitXor receivers (bitAnd receivers senders)) b shared between p x y,
+            shared-bit x y,
+            bit-xor senders (bitAnd receivers senders) x,
+            bit-xor receivers (bitAnd receivers senders) x,
+            bit-and receivers senders x,
+          )
+          refl
+
+      three :
+          (p r s e f : Bool)
+          → (((p || ((e || f) && (r && s))) || (e && cond r (not (r && s)) (r && s))) || (f && cond s (not (r && s)) (r && s)))
+          ≡ (p || (e && r) || (f && s))
+      three true r s e f = refl
+      three false true true true f = refl
+      three false true true false true = refl
+      three false true true false false = refl
+      three false true false true f = refl
+      three false true false false true = refl
+      three false true false false false = refl
+      three false false true true true = refl
+      three false false true true false = refl
+      three false false true false true = refl
+      three false false true false false = refl
+      three false false false true true = refl
+      three false false false true false = refl
+      three false false false false true = refl
+      three false false false false false = refl
 
 -- the columns of one step more
 module _ (rows heard plan : List ℕ) (b : ℕ) (before after : List ℕ) where
@@ -279,7 +324,7 @@ module _ (rows : List ℕ) (nodes : ℕ) (before : List ℕ) where
   hearing-more rest p table after row low s g =
       record {
         size = s .size ∙ g .size;
-        within = λ x e. g .within x (first (bit rest x) (not (eqb p x)) (sym (low .cleared x) ∙ e));
+        within = λ x e. g .within x (left-over rest p low x e);
         bits =
             λ y x h.
             spread-bit (rowMask rows p) p table after s y x
@@ -288,10 +333,6 @@ module _ (rows : List ℕ) (nodes : ℕ) (before : List ℕ) where
         others = λ y h. s .others y h ∙ g .others y h;
       }
     where
-      first : (a b : Bool) → (a && b) ≡ true → a ≡ true
-      first true b e = refl
-      first false b e = e
-
       here :
           (y x : ℕ)
           → p ≡ x

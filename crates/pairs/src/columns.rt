@@ -62,16 +62,21 @@ pub fn hear(rows: &[u8], nodes: u64, table: &mut [u64])
     }
 }
 
-// One step of a plan noted, the b-th from the end: with its own two nodes, whom its sender disturbs or hears, and whom its receiver does.
+// One step of a plan noted, the b-th from the end: with its own two nodes, whom its sender disturbs or hears, and whom its receiver does. Most
+// are both, and get both marks at once.
 fn note(rows: &[u8], heard: &[u64], u: Transmission, b: usize, columns: &mut [u64])
     requires { ⌜ Within (now rows) u × (b < mostSteps) × (mostNodes ≤ length (now heard)) × (mostNodes ≤ length (now columns)) ⌝ }
     ensures { λ _. ⌜ Noted (now (rows .entry)) (now (heard .entry)) u b (now (columns .entry)) (now (columns .exit)) ⌝ }
 {
     let ends = only(u.sender) | only(u.receiver);
     let receiving = row_mask(rows, u.sender) | heard[u.sender.0 as usize] | ends;
-    spread(columns, receiving, 1 << b);
     let sending = row_mask(rows, u.receiver) | heard[u.receiver.0 as usize] | ends;
-    spread(columns, sending, 1 << (Plan::MOST + b));
+    let both = receiving & sending;
+    let lower = 1 << b;
+    let upper = 1 << (Plan::MOST + b);
+    spread(columns, both, lower | upper);
+    spread(columns, receiving ^ both, lower);
+    spread(columns, sending ^ both, upper);
 }
 
 // The columns of a plan, gathered into blank ones.

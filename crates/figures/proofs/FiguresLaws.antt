@@ -17,7 +17,7 @@ use Rattle.plans.specs.Plan.{AllWithin, stepsIn, planIn}
 use Rattle.plans.specs.Single.{again, singles, placeOf, Singled}
 use Rattle.plans.proofs.StepsLaws.{step-plan, plan-length, steps-plan}
 use Rattle.plans.proofs.SingleLaws.{singles-none, singles-new, singles-some, singles-most, place-below, place-next, place-onto}
-use mathlib.Core.Bool.{Bool, true, false, _||_}
+use mathlib.Core.Bool.{true, false, _||_, or-true}
 use lib.Dec.{eqb}
 use Rattle.trade.specs.declared.node.Node.{Node}
 use Rattle.nodes.specs.Network.{InNetwork}
@@ -144,10 +144,6 @@ filled-group line n first until figure after o m is r =
 
     behind : (i : ℕ) → until ≤ i → getD after i 0 ≡ getD (filled mostFlows figure until) i 0
     behind i h = r .past i h ∙ filled-behind mostFlows figure first i (omega arith) ∙ sym (filled-behind mostFlows figure until i h)
-
-or-true : (b : Bool) → (b || true) ≡ true
-or-true true = refl
-or-true false = refl
 
 -- what is heard of all flows is heard of those above one of them
 pub all-heard :

@@ -2,7 +2,7 @@
 -- last columns. Leans on the trade's Interference. Assumes nothing.
 use Prim.Native.Nat.{ℕ, zero, suc, _+_, _-_, _*_, _/_, _%_, _^_, _≤_, _<_, max}
 use mathlib.Core.Path.{_≡_, refl, sym, _∙_, ap, ap₂}
-use mathlib.Core.Bool.{Bool, true, false, cond, not, _&&_, _||_}
+use mathlib.Core.Bool.{Bool, true, false, cond, not, _&&_, _||_, or-true, and-false}
 use mathlib.Core.Logic.{_⊎_, ⊎-elim, inl, inr}
 use native.Mathlib.Omega.{arith}
 use native.Mathlib.Nat.{pow-suc}
@@ -34,14 +34,6 @@ worst-at-most marks rows i j (suc k) =
 -- one of two bits, and not both
 abbrev differ : Bool → Bool → Bool
 differ a b = cond a (not b) b
-
-and-none : (b : Bool) → (b && false) ≡ false
-and-none true = refl
-and-none false = refl
-
-or-true : (b : Bool) → (b || true) ≡ true
-or-true true = refl
-or-true false = refl
 
 -- SHIFTED BY A BIT: one bit of a rise, and what is carried past it
 carry-up : (d c : Bool) → one (differ d c) + 2 * one (c && differ d false) ≡ one d + one c
@@ -399,7 +391,7 @@ module _
                   n .0,
                   n .1,
                   rises b h,
-                  sh .same (s + b) (ups (s + b) (omega arith) ∙ rw m refl) (downs (s + b) (omega arith) ∙ rw (free (s + b) (omega arith), m, level) (and-none (lifts (s + b)))),
+                  sh .same (s + b) (ups (s + b) (omega arith) ∙ rw m refl) (downs (s + b) (omega arith) ∙ rw (free (s + b) (omega arith), m, level) (and-false (lifts (s + b)))),
                 )
 
         -- what is lifted at the last place is taken at the end, where the carry ends

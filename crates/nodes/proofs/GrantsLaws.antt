@@ -1,7 +1,7 @@
 -- The grant set holds the grants that were made: none at first, and one more with each. Leans on Bits. Assumes nothing.
 use Prim.Native.Nat.{ℕ, _^_, _<_}
-use mathlib.Core.Path.{_≡_, refl, sym, _∙_, ap, ap₂}
-use mathlib.Core.Bool.{Bool, true, false, _||_, or-assoc, or-false}
+use mathlib.Core.Path.{_≡_, refl, sym, _∙_, ap}
+use mathlib.Core.Bool.{Bool, true, false, _||_, or-assoc, or-false, or-true}
 use mathlib.Core.List.{List, [], _∷_, _++_}
 use lib.Dec.{eqb}
 use lib.Bits.{bitOr, and-zero-r}
@@ -24,10 +24,6 @@ or-pairs false true true s = refl
 or-pairs false true false s = refl
 or-pairs false false true s = refl
 or-pairs false false false s = refl
-
-or-true : (b : Bool) → (b || true) ≡ true
-or-true true = refl
-or-true false = refl
 
 -- three sets that each have one more
 three : (p p₁ q q₁ r r₁ : Bool) → (((p || p₁) || (q || q₁)) || (r || r₁)) ≡ (((p || q) || r) || ((p₁ || q₁) || r₁))

@@ -1,7 +1,7 @@
 -- The lowest bit of a number: found, and cleared. Leans on MaskLaws and lib.Count. Assumes nothing.
 use Prim.Native.Nat.{ℕ, zero, suc, _-_, _*_, _/_, _%_, _^_, _<_}
-use mathlib.Core.Path.{_≡_, refl, sym, _∙_}
-use mathlib.Core.Bool.{Bool, true, false, not, _&&_}
+use mathlib.Core.Path.{_≡_, sym, _∙_}
+use mathlib.Core.Bool.{true, false, not, _&&_, and-false, and-true}
 use mathlib.Core.Logic.{_⊎_, inl, inr}
 use native.Mathlib.Omega.{arith}
 use native.Mathlib.Nat.{pow-suc, mul-mod-left, mul-div-cancel, add-zero, zero-min}
@@ -32,14 +32,6 @@ pub record Lowest (n p : ℕ) : Type 0 where
   pub set : bit n p ≡ true
   pub below : (y : ℕ) → y < p → bit n y ≡ false
   pub cleared : (y : ℕ) → bit (bitAnd n (n - 1)) y ≡ (bit n y && not (eqb p y))
-
-pub and-false : (b : Bool) → (b && false) ≡ false
-and-false true = refl
-and-false false = refl
-
-pub and-true : (b : Bool) → (b && true) ≡ b
-and-true true = refl
-and-true false = refl
 
 lowest-odd : (n : ℕ) → n % 2 ≡ 1 → Lowest n 0
 lowest-odd n e =

@@ -1,8 +1,7 @@
 -- The figure that the columns of a plan l give for a plan h is that of the two plans. Leans on the trade's Interference. Assumes nothing.
 use Prim.Native.Nat.{ℕ, suc, _-_, _*_, _≤_, _<_}
 use mathlib.Core.Path.{_≡_, refl, sym, _∙_, ap}
-use mathlib.Core.Bool.{Bool, true, false, _||_}
-use mathlib.Core.Logic.{⊎-elim}
+use mathlib.Core.Bool.{Bool, true, false, _||_, or-true}
 use mathlib.Core.List.{List}
 use native.Mathlib.Omega.{arith}
 use borrow.Author.Tests.{ne-eqb, lt-ltb, le-ltb}
@@ -13,16 +12,11 @@ use Rattle.trade.specs.Facts.{disturbsIn, stepIn}
 use Rattle.trade.specs.Conflict.{meet, conflict}
 use Rattle.trade.specs.Interference.{worstPath}
 use Rattle.trade.specs.declared.node.Transmission.{Transmission}
-use Rattle.trade.proofs.First.{lt-or-ge}
-use Rattle.trade.proofs.Conflict.{conflict-symmetric}
+use Rattle.trade.proofs.Conflict.{eqb-comm, conflict-symmetric}
 use Rattle.trade.proofs.Interference.{paths-agree}
 use Rattle.nodes.specs.Network.{Within}
 use Rattle.plans.specs.Plan.{AllWithin, stepsIn}
 use Rattle.pairs.specs.Columns.{marksOf, fromEnd, Hears, near, receiving, sending, Columns, markedAt, Narrow, matrixBy}
-
-or-true : (b : Bool) → (b || true) ≡ true
-or-true true = refl
-or-true false = refl
 
 -- the tests of a conflict, in the order of the columns
 reorder : (p q r s t u x y : Bool) → (false || false || p || q || r || s || t || u || x || y) ≡ ((p || q || (x || u)) || (r || s || (t || y)))
@@ -35,15 +29,6 @@ reorder false false false false false true true y = refl
 reorder false false false false false true false y = refl
 reorder false false false false false false true y = refl
 reorder false false false false false false false y = refl
-
-eqb-turned : (a b : ℕ) → eqb a b ≡ eqb b a
-eqb-turned a b = ⊎-elim (λ (h : a < b). off (λ e. omega arith) (λ e. omega arith)) (λ (h : b ≤ a). ⊎-elim (λ (g : b < a). off (λ e. omega arith) (λ e. omega arith)) (λ (g : a ≤ b). on (omega arith)) (lt-or-ge b a)) (lt-or-ge a b)
-  where
-    off : (a ≡ b → ⊥) → (b ≡ a → ⊥) → eqb a b ≡ eqb b a
-    off p q = ne-eqb a b p ∙ sym (ne-eqb b a q)
-
-    on : a ≡ b → eqb a b ≡ eqb b a
-    on e = rw e refl
 
 -- a transmission conflicts with another if the other's columns of its sender or of its receiver say so
 module _ (rows heard : List ℕ) where
@@ -63,10 +48,10 @@ module _ (rows heard : List ℕ) where
       rw (
         ne-eqb a b (p .apart),
         ne-eqb v w (q .apart),
-        eqb-turned a v,
-        eqb-turned a w,
-        eqb-turned b v,
-        eqb-turned b w,
+        eqb-comm a v,
+        eqb-comm a w,
+        eqb-comm b v,
+        eqb-comm b w,
         sender w (q .receiver .numbered),
         receiver v (q .sender .numbered),
       )

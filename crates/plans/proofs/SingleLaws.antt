@@ -1,7 +1,7 @@
 -- A plan whose repeated steps stand once: where its steps stand, and one more of them written. Leans on the trade's Facts. Assumes nothing.
 use Prim.Native.Nat.{ℕ, zero, suc, _+_, _-_, _*_, _/_, _%_, _≤_, _<_}
 use mathlib.Core.Path.{_≡_, refl, sym, _∙_, ap, ap₂}
-use mathlib.Core.Bool.{Bool, true, false, _&&_}
+use mathlib.Core.Bool.{true, false}
 use mathlib.Core.List.{List}
 use mathlib.Core.Logic.{_⊎_, ⊎-elim, inl, inr}
 use native.Mathlib.Omega.{arith}
@@ -11,18 +11,14 @@ use borrow.Author.Tests.{eqb-true}
 use Rattle.trade.specs.Limits.{stepBytes}
 use Rattle.trade.specs.Facts.{stepIn}
 use Rattle.trade.specs.declared.node.Transmission.{Transmission}
-use Rattle.trade.proofs.First.{lt-or-ge, bool-cases, not-both}
+use Rattle.trade.proofs.First.{lt-or-ge, bool-cases, not-both, and-true}
 use Rattle.plans.specs.Single.{same, again, singles, placeOf, SingledTo}
 use Rattle.plans.proofs.StepsLaws.{sent}
-
-both : (a b : Bool) → (a && b) ≡ true → (a ≡ true) × (b ≡ true)
-both true b e = (refl, e)
-both false b e = absurd (not-both e refl)
 
 -- two steps that go from the same node to the same are the same
 same-steps : (u v : Transmission) → same u v ≡ true → u ≡ v
 same-steps u v e =
-    let p = both _ _ e in ap₂ sent (eqb-true (u .sender .0) (v .sender .0) (p .0)) (eqb-true (u .receiver .0) (v .receiver .0) (p .1))
+    let p = and-true _ _ e in ap₂ sent (eqb-true (u .sender .0) (v .sender .0) (p .0)) (eqb-true (u .receiver .0) (v .receiver .0) (p .1))
 
 module _ (plan : List ℕ) where
   pub singles-none : singles plan 0 ≡ 0

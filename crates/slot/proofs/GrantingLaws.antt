@@ -2,7 +2,7 @@
 -- each of these flows is one step on. Leans on Places, on the nodes' LowestLaws, and on the trade's Slot. Assumes nothing.
 use Prim.Native.Nat.{ℕ, zero, suc, _+_, _-_, _*_, _≤_, _<_}
 use mathlib.Core.Path.{_≡_, refl, sym, _∙_, ap}
-use mathlib.Core.Bool.{Bool, true, false, not, _&&_}
+use mathlib.Core.Bool.{Bool, true, false, not, _&&_, and-false}
 use mathlib.Core.Logic.{_⊎_, inl, inr, ⊎-elim}
 use mathlib.Core.List.{List, [], _∷_, _++_, append-assoc, append-nil}
 use native.Mathlib.Nat.{add-zero}
@@ -40,10 +40,6 @@ use Rattle.slot.proofs.Places.{stored, unstored}
 and-yes : (b : Bool) → (b && true) ≡ b
 and-yes true = refl
 and-yes false = refl
-
-and-none : (b : Bool) → (b && false) ≡ false
-and-none true = refl
-and-none false = refl
 
 -- the grants of one flow more stand behind those of the others
 grants-last : (grant : ℕ → List ℕ) (is : List ℕ) (i : ℕ) → grantsOf grant (is ++ (i ∷ [])) ≡ grantsOf grant is ++ grant i
@@ -215,8 +211,8 @@ module _ (records : List ℕ) (firsts : List Slot) (run : Run) (choice : Choice)
         rw (left j, le-leb (suc p) j (omega arith), le-leb k j (omega (arith, leb-true k p (here .1))), ne-eqb p j (λ e. omega arith)) (and-yes (bit goes j && true)))
         (λ (h : j ≤ p).
         rw (lt-leb (suc p) j (omega arith))
-        (⊎-elim (λ (l : j < p). rw (low .below j l) (sym (and-none (bit goes j))))
-        (λ (l : p ≤ j). let e : p ≡ j = omega arith in rw (eq-eqb p j e) (and-none (bit rest j) ∙ sym (and-none (bit goes j)))) (lt-or-ge j p)))
+        (⊎-elim (λ (l : j < p). rw (low .below j l) (sym (and-false (bit goes j))))
+        (λ (l : p ≤ j). let e : p ≡ j = omega arith in rw (eq-eqb p j e) (and-false (bit rest j) ∙ sym (and-false (bit goes j)))) (lt-or-ge j p)))
         (lt-or-ge p j)
 
     module _ (asked : Granting records run choice (length lent)) (few : p < mostFlows) (places : List Progress) (count : ℕ) (grants : List ℕ) (so : Given k places count grants) where

@@ -2,14 +2,13 @@
 -- last one ended. The measure is how many flows are left. Assumes nothing.
 use Prim.Native.Nat.{suc, _+_, _-_, _≤_, _<_}
 use mathlib.Core.Path.{_≡_, refl, sym, _∙_, ap, ap₂}
-use mathlib.Core.Bool.{Bool, true, false, _&&_}
 use mathlib.Core.Logic.{_⊎_, ⊎-elim}
 use native.Mathlib.Omega.{arith}
 use borrow.Author.Needs.{needs}
 use borrow.Author.Tests.{ltb-true, lt-ltb}
 use lib.ListN.{length}
 use denote.Ref.{now}
-use Rattle.trade.proofs.First.{lt-or-ge, not-both}
+use Rattle.trade.proofs.First.{lt-or-ge, not-both, and-true}
 use Rattle.nodes.proofs.MaskLaws.{one-bit, bit-only}
 use Rattle.plans.specs.Plan.{stepsIn, planIn}
 use Rattle.sections.specs.Formed.{planAt}
@@ -41,17 +40,13 @@ loop-holds c =
 has-room-requires : tie.Need-has-room-requires Inv-loop μ-loop
 has-room-requires c κs = (omega (arith, c .loop .inv .1, c .loop .inv .2 .room), omega (arith, c .before .before .before .before .before .pre .0 .4))
 
-both : (a b : Bool) → (a && b) ≡ true → (a ≡ true) × (b ≡ true)
-both true b e = (refl, e)
-both false b e = absurd (not-both e refl)
-
 -- there is a flow, and room for it
 room :
     (c : tie.Then1 Inv-loop μ-loop)
     → (c .before .before .loop .laid .next < c .before .before .before .before .before .before .before .args .l)
     × (c .before .before .loop .at + c .before .before .before .before .before .before .before .args .width < 64)
 room c =
-    let more = both _ _ (sym (c .before .has-room .ensures) ∙ c .if1 .taken) in (ltb-true _ _ (more .0), ltb-true _ _ (more .1))
+    let more = and-true _ _ (sym (c .before .has-room .ensures) ∙ c .if1 .taken) in (ltb-true _ _ (more .0), ltb-true _ _ (more .1))
 
 len-at-requires : tie.Need-len-at-requires Inv-loop μ-loop
 len-at-requires c κs = omega (arith, room c .0, c .before .before .before .before .before .before .before .pre .0 .2)

@@ -25,8 +25,8 @@ use Rattle.trade.proofs.Valid.{sound}
 use Rattle.trade.proofs.Used.{same-sections, NoMore}
 use Rattle.trade.proofs.Exchange.{Fits, field-come, new-steps, recut-no-more}
 use Rattle.changes.specs.Change.{New}
-use Rattle.changes.specs.Cut.{coming, Coming}
-use Rattle.changes.proofs.CutLaws.{length-entered}
+use Rattle.changes.specs.Moved.{coming, Coming}
+use Rattle.cut.proofs.CutLaws.{length-entered}
 use Rattle.changes.proofs.RecutLaws.{steps-most, old-full, old-first, steps-cut}
 use Rattle.changes.proofs.RulesLaws.{passed-in-range, old-passed, place-passed, askAnswer, enter-room}
 

@@ -15,8 +15,9 @@ use Rattle.trade.specs.Calls.{Removing, leaving, leaveRules, removeAnswer}
 use Rattle.trade.proofs.Sums.{sum-le}
 use Rattle.trade.proofs.Used.{same-sections, NoMore}
 use Rattle.trade.proofs.Exchange.{Fits, recut-no-more}
-use Rattle.changes.specs.Cut.{turned, Leaving}
-use Rattle.changes.proofs.CutLaws.{left-front}
+use Rattle.changes.specs.Moved.{Leaving}
+use Rattle.cut.specs.Turned.{turned}
+use Rattle.cut.proofs.CutLaws.{left-front}
 use Rattle.changes.proofs.RecutLaws.{steps-most, old-full, steps-cut}
 use Rattle.changes.proofs.RulesLaws.{passed-in-range, old-passed, place-passed, leave-there}
 

@@ -1,5 +1,4 @@
 -- Laws that the proofs of this crate's functions, and those above it, cite.
-pub mod CutLaws
 pub mod RecutLaws
 pub mod RulesLaws
 pub mod EnteringLaws

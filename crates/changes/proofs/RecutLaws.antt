@@ -15,7 +15,7 @@ use Rattle.trade.specs.Exchange.{spliced, Exchange, recut}
 use Rattle.trade.proofs.Sums.{sum-most}
 use Rattle.trade.proofs.Places.{same-firstStep}
 use Rattle.trade.proofs.Used.{same-sections, used-same, NoMore, no-more-table, Holds, Full, used-full}
-use Rattle.changes.specs.Cut.{InRange}
+use Rattle.changes.specs.Moved.{InRange}
 
 -- THE SECTIONS of a table in memory, its counts in range and no L above the most, hold their used places
 module _ (t : Sections) (r : InRange t) where

@@ -16,7 +16,7 @@ use Rattle.trade.specs.declared.answer.Answer.{Answer}
 use Rattle.trade.proofs.Answers.{done-first, refused-second, Passed, passed-head, passed-tail, passed-first, passed-others, passed-look, firstOf-passed, given-passed, given-passes, firstOf-last, append-refused, append-passed, firstOf-look, firstOf-on}
 use Rattle.trade.proofs.Valid.{table-valid}
 use Rattle.changes.specs.Change.{oldThen}
-use Rattle.changes.specs.Cut.{InRange}
+use Rattle.changes.specs.Moved.{InRange}
 
 -- the table after a change, by its answer: as it was, or the new one
 pub leaves : (answer r : Answer) (new old : Sections) → r ≡ answer → (r .code ≡ 0 → ⊥) → old ≡ cond (isDone answer) new old

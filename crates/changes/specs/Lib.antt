@@ -1,3 +1,3 @@
 -- Definitions that the contracts of this crate cite beside those of the trade.
-pub mod Cut
+pub mod Moved
 pub mod Change

@@ -1,6 +1,5 @@
 // Changes of a table: a flow added at a place, or removed.
 pub mod change;
-mod cut;
 mod entering;
 mod leaving;
 mod rules;

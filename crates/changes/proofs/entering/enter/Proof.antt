@@ -13,7 +13,7 @@ use Rattle.trade.specs.Answers.{isDone, firstOf, noNumber}
 use Rattle.trade.specs.Exchange.{recut}
 use Rattle.trade.specs.Calls.{Adding, withFlow, newRules, addOf}
 use Rattle.trade.specs.declared.answer.Answer.{Answer}
-use Rattle.changes.specs.Cut.{coming, Coming}
+use Rattle.changes.specs.Moved.{coming, Coming}
 use Rattle.changes.proofs.RulesLaws.{leaves, askAnswer, enter-asked, add-asked, add-new}
 use Rattle.changes.proofs.EnteringLaws.{Enters, enter-comes, enter-made}
 use borrow.Author.Needs.{needs}

@@ -14,8 +14,8 @@ use Rattle.trade.specs.Calls.{newRules}
 use Rattle.trade.proofs.Answers.{done-first, refused-second}
 use Rattle.trade.proofs.Used.{same-sections}
 use Rattle.changes.specs.Change.{New}
-use Rattle.changes.specs.Cut.{coming}
-use Rattle.changes.proofs.CutLaws.{out-again}
+use Rattle.changes.specs.Moved.{coming}
+use Rattle.cut.proofs.CutLaws.{out-again}
 use Rattle.changes.proofs.RecutLaws.{cleared}
 use Rattle.changes.proofs.EnteringLaws.{new-no-more, step-first, step-room, with-it, new-tested}
 use borrow.Author.Needs.{needs}

@@ -5,7 +5,7 @@ use native.Mathlib.Omega.{arith}
 use Rattle.trade.specs.Layout.{sections}
 use Rattle.trade.specs.Calls.{Removing, withoutFlow, removeAnswer, removeOf}
 use Rattle.trade.specs.declared.answer.Answer.{Answer}
-use Rattle.changes.specs.Cut.{Leaving}
+use Rattle.changes.specs.Moved.{Leaving}
 use Rattle.changes.proofs.RulesLaws.{leaves, gives, leave-asked}
 use Rattle.changes.proofs.LeavingLaws.{leave-goes}
 use borrow.Author.Needs.{needs}

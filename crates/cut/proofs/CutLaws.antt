@@ -13,7 +13,7 @@ use Rattle.trade.proofs.Exchange.{length-spliced}
 use Rattle.numbers.specs.Pasting.{pastedAt}
 use Rattle.numbers.proofs.PastingLaws.{pasted-first}
 use Rattle.bytes.specs.Bytes.{rev, slice}
-use Rattle.changes.specs.Cut.{turned}
+use Rattle.cut.specs.Turned.{turned}
 
 -- A LIST IN PARTS: what stands before a place, up to a second, up to a third, and behind it
 length-part : (from to : ℕ) (l : List ℕ) → to ≤ length l → length (slice from to l) ≡ to - from

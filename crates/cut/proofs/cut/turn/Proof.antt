@@ -1,9 +1,9 @@
--- `changes::cut::turn` meets its contract: each part is reversed, and then both together. Assumes nothing.
+-- `cut::cut::turn` meets its contract: each part is reversed, and then both together. Assumes nothing.
 use denote.Ref.{now}
-use Rattle.changes.proofs.CutLaws.{turned-in-turn}
+use Rattle.cut.proofs.CutLaws.{turned-in-turn}
 use borrow.Author.Needs.{needs}
-use Rattle.changes.proofs.cut.turn.Statement.{statement}
-use Rattle.changes.proofs.cut.turn.Tie as tie
+use Rattle.cut.proofs.cut.turn.Statement.{statement}
+use Rattle.cut.proofs.cut.turn.Tie as tie
 
 returns : tie.Need-returns
 returns c =

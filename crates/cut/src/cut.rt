@@ -7,13 +7,13 @@ ghost use Rattle.trade.specs.Limits.{mostSteps, stepBytes};
 ghost use Rattle.trade.specs.Bytes.{part, padded, over};
 ghost use Rattle.trade.specs.Exchange.{spliced};
 ghost use Rattle.numbers.specs.Pasting.{pastedAt};
-ghost use Rattle.changes.specs.Cut.{turned};
+ghost use Rattle.cut.specs.Turned.{turned};
 use numbers::pasting::put_at;
 use trade::Plan;
 
 // The bytes from one place up to a second change about with those from there up to a third: each of the two parts is reversed, and
 // then both together.
-pub(crate) fn turn(section: &mut [u8], from: usize, middle: usize, to: usize)
+pub fn turn(section: &mut [u8], from: usize, middle: usize, to: usize)
     requires { ⌜ (from ≤ middle) × (middle ≤ to) × (to ≤ length (now section)) ⌝ }
     ensures { λ _. ⌜ now (section .exit) ≡ turned from middle to (now (section .entry)) ⌝ }
 {
@@ -37,7 +37,7 @@ fn swap(section: &mut [u8], at: usize, held: &mut [u8])
 }
 
 // The held bytes come in at a place of those in use, which end at another. What they come to stand over is held in their stead.
-pub(crate) fn put_in(section: &mut [u8], at: usize, end: usize, held: &mut [u8])
+pub fn put_in(section: &mut [u8], at: usize, end: usize, held: &mut [u8])
     requires { ⌜ (length (now held) ≤ mostSteps * stepBytes) × (at ≤ end) × (end + length (now held) ≤ length (now section)) ⌝ }
     ensures { λ _. ⌜ now (section .exit) ≡ over (spliced at at (now (held .entry)) (take end (now (section .entry)))) (now (section .entry)) ⌝ }
     ensures { λ _. ⌜ now (held .exit) ≡ part end (length (now (held .entry))) (now (section .entry)) ⌝ }
@@ -48,7 +48,7 @@ pub(crate) fn put_in(section: &mut [u8], at: usize, end: usize, held: &mut [u8])
 }
 
 // As many bytes as are held go from a place of those in use, which then end at another, and the held ones stand there again.
-pub(crate) fn take_out(section: &mut [u8], at: usize, end: usize, held: &mut [u8])
+pub fn take_out(section: &mut [u8], at: usize, end: usize, held: &mut [u8])
     requires { ⌜ (length (now held) ≤ mostSteps * stepBytes) × (at ≤ end) × (end + length (now held) ≤ length (now section)) ⌝ }
     ensures { λ _. ⌜ now (section .exit)
         ≡ over (spliced at (at + length (now (held .entry))) [] (take (end + length (now (held .entry))) (now (section .entry))) ++ now (held .entry))
@@ -60,7 +60,7 @@ pub(crate) fn take_out(section: &mut [u8], at: usize, end: usize, held: &mut [u8
 }
 
 // Zeros from a place on.
-pub(crate) fn clear(section: &mut [u8], end: usize)
+pub fn clear(section: &mut [u8], end: usize)
     requires { ⌜ end ≤ length (now section) ⌝ }
     ensures { λ _. ⌜ now (section .exit) ≡ padded (length (now (section .entry))) (take end (now (section .entry))) ⌝ }
 {

@@ -1,13 +1,13 @@
--- `changes::cut::put_in` meets its contract: the held bytes are put behind those in use, and change about with them. Assumes nothing.
+-- `cut::cut::put_in` meets its contract: the held bytes are put behind those in use, and change about with them. Assumes nothing.
 use Prim.Native.Nat.{_+_}
 use mathlib.Core.Path.{_∙_, ap}
 use denote.Ref.{now}
 use lib.ListN.{length}
-use Rattle.changes.specs.Cut.{turned}
-use Rattle.changes.proofs.CutLaws.{entered-in-turn}
+use Rattle.cut.specs.Turned.{turned}
+use Rattle.cut.proofs.CutLaws.{entered-in-turn}
 use borrow.Author.Needs.{needs}
-use Rattle.changes.proofs.cut.put_in.Statement.{statement}
-use Rattle.changes.proofs.cut.put_in.Tie as tie
+use Rattle.cut.proofs.cut.put_in.Statement.{statement}
+use Rattle.cut.proofs.cut.put_in.Tie as tie
 
 returns : tie.Need-returns
 returns c =

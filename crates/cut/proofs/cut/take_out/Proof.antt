@@ -1,12 +1,12 @@
--- `changes::cut::take_out` meets its contract: the bytes that go change about with those in use behind them, and the held ones are put
+-- `cut::cut::take_out` meets its contract: the bytes that go change about with those in use behind them, and the held ones are put
 -- over them. Assumes nothing.
 use mathlib.Core.Path.{_∙_, ap}
 use denote.Ref.{now}
 use Rattle.numbers.specs.Pasting.{pastedAt}
-use Rattle.changes.proofs.CutLaws.{left-in-turn}
+use Rattle.cut.proofs.CutLaws.{left-in-turn}
 use borrow.Author.Needs.{needs}
-use Rattle.changes.proofs.cut.take_out.Statement.{statement}
-use Rattle.changes.proofs.cut.take_out.Tie as tie
+use Rattle.cut.proofs.cut.take_out.Statement.{statement}
+use Rattle.cut.proofs.cut.take_out.Tie as tie
 
 returns : tie.Need-returns
 returns c =

@@ -1,4 +1,4 @@
--- `changes::cut::swap` meets its contract: the held bytes are kept while those of the section are held. Assumes nothing.
+-- `cut::cut::swap` meets its contract: the held bytes are kept while those of the section are held. Assumes nothing.
 use Prim.Native.Nat.{ℕ, _+_, _-_}
 use mathlib.Core.Path.{_≡_, sym, _∙_, ap}
 use mathlib.Core.List.{List}
@@ -8,10 +8,10 @@ use lib.ListN.{length, take, drop, length-drop}
 use lib.Seq.{length-take-le}
 use Rattle.trade.specs.Bytes.{part}
 use Rattle.numbers.specs.Pasting.{pastedAt}
-use Rattle.changes.proofs.CutLaws.{kept-front, over-all}
+use Rattle.cut.proofs.CutLaws.{kept-front, over-all}
 use borrow.Author.Needs.{needs}
-use Rattle.changes.proofs.cut.swap.Statement.{statement}
-use Rattle.changes.proofs.cut.swap.Tie as tie
+use Rattle.cut.proofs.cut.swap.Statement.{statement}
+use Rattle.cut.proofs.cut.swap.Tie as tie
 
 -- what is kept is what was held
 abbrev start : tie.After-put-at → tie.Start

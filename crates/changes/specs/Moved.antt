@@ -1,9 +1,9 @@
--- Bytes of a section moved in place, and the sections that a flow comes into or goes from. Leans on the trade's Exchange.
+-- The sections that a flow comes into or goes from. Leans on the trade's Exchange.
 use Prim.Native.Nat.{ℕ, _*_, _≤_, _<_, min}
 use mathlib.Core.Path.{_≡_}
 use mathlib.Core.Bool.{cond}
-use mathlib.Core.List.{List, _++_}
-use lib.ListN.{length, take, drop}
+use mathlib.Core.List.{List}
+use lib.ListN.{length}
 use Rattle.trade.specs.Limits.{mostNodes, mostFlows, mostSteps, recordBytes, stepBytes}
 use Rattle.trade.specs.Layout.{Sections, field}
 use Rattle.trade.specs.Table.{InMemory, used, tableOf}
@@ -11,11 +11,6 @@ use Rattle.trade.specs.Answers.{isDone, firstOf, noNumber}
 use Rattle.trade.specs.Exchange.{Exchange, recut}
 use Rattle.trade.specs.Calls.{newRules}
 use Rattle.trade.specs.declared.answer.Answer.{Answer}
-use Rattle.bytes.specs.Bytes.{slice}
-
--- the bytes from one place up to a second, and those from there up to a third, the other way about
-unfoldable pub turned : ℕ → ℕ → ℕ → List ℕ → List ℕ
-turned from middle to bytes = take from bytes ++ (slice middle to bytes ++ (slice from middle bytes ++ drop to bytes))
 
 -- one flow comes in at a place, with this record and these steps
 abbrev pub coming : ℕ → List ℕ → List ℕ → Exchange

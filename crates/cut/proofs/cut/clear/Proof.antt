@@ -1,13 +1,13 @@
--- `changes::cut::clear` meets its contract: a zero is stored at each place from the first on. Assumes nothing.
+-- `cut::cut::clear` meets its contract: a zero is stored at each place from the first on. Assumes nothing.
 use Prim.Native.Nat.{ℕ, _-_, _≤_}
 use mathlib.Core.Path.{_≡_, _∙_, ap}
 use denote.Ref.{now}
 use native.Mathlib.Omega.{arith}
 use lib.ListN.{length}
-use Rattle.changes.proofs.CutLaws.{zeroed, zeroed-none, zeroed-length, zeroed-next, zeroed-all}
+use Rattle.cut.proofs.CutLaws.{zeroed, zeroed-none, zeroed-length, zeroed-next, zeroed-all}
 use borrow.Author.Needs.{needs}
-use Rattle.changes.proofs.cut.clear.Statement.{statement}
-use Rattle.changes.proofs.cut.clear.Tie as tie
+use Rattle.cut.proofs.cut.clear.Statement.{statement}
+use Rattle.cut.proofs.cut.clear.Tie as tie
 
 abbrev Inv-loop : tie.InvT-loop
 Inv-loop section₀ end i₀ section i = (end ≤ i) × (i ≤ length section₀) × (section ≡ zeroed end i section₀)

@@ -4,8 +4,8 @@
  *
  * Each call answers one number, code * 65536 + number. Code 0 is success.
  * No call keeps a pointer, allocates memory or has state of its own: all it
- * knows is in the slices that it is lent. Check and start take about 4 KB
- * of stack, advance about 1 KB.
+ * knows is in the slices that it is lent. Check and start take about 2.5 KB
+ * of stack, advance about 1.2 KB.
  *
  * What the caller owes, and without which nothing is promised:
  * - slices do not overlap, and a pointer is not null, not even with a length

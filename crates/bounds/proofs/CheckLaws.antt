@@ -12,7 +12,7 @@ use Rattle.trade.specs.Bound.{code9, code9By}
 use Rattle.trade.specs.Calls.{bookRules, readAnswer, checkAnswer, checkBy, checkAnswerBy, checkRulesBy}
 use Rattle.trade.specs.declared.answer.Answer.{Answer}
 use Rattle.trade.proofs.Answers.{firstOf-on, firstOf-last, given-passes}
-use Rattle.bounds.specs.Bounds.{refusedBy, boundedBy, ChecksAs}
+use Rattle.bounds.specs.Bounds.{refusedBy, boundedIn, boundedBy, ChecksAs}
 use Rattle.trade.proofs.Alike.{alike-counts}
 use Rattle.bounds.proofs.BoundsLaws.{bounded-alike}
 
@@ -44,7 +44,7 @@ checks-refused b n =
     }
 
 pub checks-bounded : (b : List ℕ) → readAnswer b .code ≡ 0 → ChecksAs b (boundedBy (said b))
-unfolding checkBy boundedBy
+unfolding checkBy boundedIn
 checks-bounded b e =
     record {
       answer = sym (check-passed b e);

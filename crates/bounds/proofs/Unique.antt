@@ -3,6 +3,10 @@
 use Rattle.trade.proofs.Unique.{OneResult, one-result}
 use Rattle.bounds.proofs.bounds.bounds_of.Kinds as bounds-of-kinds
 use Rattle.bounds.proofs.bounds.bounds_of.Reads as bounds-of
+use Rattle.bounds.proofs.bounds.refused.Kinds as refused-kinds
+use Rattle.bounds.proofs.bounds.refused.Reads as refused
+use Rattle.bounds.proofs.kept.bounds_kept.Kinds as bounds-kept-kinds
+use Rattle.bounds.proofs.kept.bounds_kept.Reads as bounds-kept
 use Rattle.bounds.proofs.acceptance.check.Kinds as check-kinds
 use Rattle.bounds.proofs.acceptance.check.Reads as check
 
@@ -11,3 +15,9 @@ bounds-of-unique κs a r r' s s' p q = one-result p q
 
 pub check-unique : OneResult 1 check-kinds.ps check-kinds.r check.Post
 check-unique κs a r r' s s' p q = λ i. record { answer = one-result (p .answer) (q .answer) i; bounds = one-result (p .bounds) (q .bounds) i }
+
+pub refused-unique : OneResult 0 refused-kinds.ps refused-kinds.r refused.Post
+refused-unique κs a r r' s s' p q = one-result p q
+
+pub bounds-kept-unique : OneResult 2 bounds-kept-kinds.ps bounds-kept-kinds.r bounds-kept.Post
+bounds-kept-unique κs a r r' s s' p q = one-result p q

@@ -5,7 +5,7 @@ use mathlib.Core.Bool.{_&&_}
 use mathlib.Core.List.{List}
 use lib.Dec.{leb}
 use lib.ListN.{getD}
-use Rattle.trade.specs.Limits.{mostFlows, mostSteps, mostPeriod}
+use Rattle.trade.specs.Limits.{mostFlows, mostPeriod}
 use Rattle.trade.specs.First.{first, sumTo}
 use Rattle.trade.specs.Bound.{instances}
 
@@ -18,9 +18,9 @@ neededIn len k figures periods carries R =
 unfoldable pub smallestIn : (ℕ → ℕ) → ℕ → ℕ → ℕ
 smallestIn needed len deadline = first (λ R. leb len R && leb R deadline && leb (needed R) R) (suc deadline)
 
--- the three lists hold what a book can say of k flows
+-- the three lists hold what can be said of k flows, a figure in a byte
 pub record Terms (k : ℕ) (figures periods carries : List ℕ) : Type 0 where
   pub above : k ≤ mostFlows
-  pub figure : (h : ℕ) → h < k → getD figures h 0 ≤ mostSteps
+  pub figure : (h : ℕ) → h < k → getD figures h 0 ≤ 255
   pub period : (h : ℕ) → h < k → (1 ≤ getD periods h 0) × (getD periods h 0 ≤ mostPeriod)
   pub carry : (h : ℕ) → h < k → (1 ≤ getD carries h 0) × (getD carries h 0 ≤ mostPeriod)

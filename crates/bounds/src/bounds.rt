@@ -24,7 +24,7 @@ pub struct Checked {
 }
 
 // A refusal has no bounds.
-pub(crate) fn refused(answer: Answer) -> Checked
+pub fn refused(answer: Answer) -> Checked
     ensures { λ r. ⌜ r ≡ refusedBy answer ⌝ }
 {
     Checked {

@@ -1,4 +1,6 @@
 // Books A and B of the rules, and the largest table.
+use changes::change::add;
+use table::table::Table;
 use trade::Book;
 use trade::Flow;
 use trade::Node;
@@ -60,37 +62,22 @@ pub const PLAN: [u8; Plan::MOST * Plan::STEP_BYTES] = *b"\
     \x00\x01\x00\x01\x00\x01\x00\x01\x00\x01\x00\x01\x00\x01\x00\x01\
     \x00\x01\x00\x01\x00\x01\x00\x01\x00\x01\x00\x01\x00\x01\x00\x01";
 
-// The records of as many flows as may be: ids from 1, phase 0, period and deadline 100, one step.
-pub const RECORDS: [u8; Flow::MOST * Flow::RECORD_BYTES] = *b"\
-    \0\x01\0\0\0\x64\0\x64\0\x01\
-    \0\x02\0\0\0\x64\0\x64\0\x01\
-    \0\x03\0\0\0\x64\0\x64\0\x01\
-    \0\x04\0\0\0\x64\0\x64\0\x01\
-    \0\x05\0\0\0\x64\0\x64\0\x01\
-    \0\x06\0\0\0\x64\0\x64\0\x01\
-    \0\x07\0\0\0\x64\0\x64\0\x01\
-    \0\x08\0\0\0\x64\0\x64\0\x01\
-    \0\x09\0\0\0\x64\0\x64\0\x01\
-    \0\x0a\0\0\0\x64\0\x64\0\x01\
-    \0\x0b\0\0\0\x64\0\x64\0\x01\
-    \0\x0c\0\0\0\x64\0\x64\0\x01\
-    \0\x0d\0\0\0\x64\0\x64\0\x01\
-    \0\x0e\0\0\0\x64\0\x64\0\x01\
-    \0\x0f\0\0\0\x64\0\x64\0\x01\
-    \0\x10\0\0\0\x64\0\x64\0\x01\
-    \0\x11\0\0\0\x64\0\x64\0\x01\
-    \0\x12\0\0\0\x64\0\x64\0\x01\
-    \0\x13\0\0\0\x64\0\x64\0\x01\
-    \0\x14\0\0\0\x64\0\x64\0\x01\
-    \0\x15\0\0\0\x64\0\x64\0\x01\
-    \0\x16\0\0\0\x64\0\x64\0\x01\
-    \0\x17\0\0\0\x64\0\x64\0\x01\
-    \0\x18\0\0\0\x64\0\x64\0\x01\
-    \0\x19\0\0\0\x64\0\x64\0\x01\
-    \0\x1a\0\0\0\x64\0\x64\0\x01\
-    \0\x1b\0\0\0\x64\0\x64\0\x01\
-    \0\x1c\0\0\0\x64\0\x64\0\x01\
-    \0\x1d\0\0\0\x64\0\x64\0\x01\
-    \0\x1e\0\0\0\x64\0\x64\0\x01\
-    \0\x1f\0\0\0\x64\0\x64\0\x01\
-    \0\x20\0\0\0\x64\0\x64\0\x01";
+// As many nodes as may be, which disturb no one, and as many flows, with ids from 1, which each send 0-1 once every 100 slots.
+pub(crate) fn largest() -> Table {
+    let mut table = Table::empty();
+    table.nodes = Node::MOST as u8;
+    let mut i = 0;
+    while i < Flow::MOST {
+        let flow = Flow {
+            id: (i + 1) as u16,
+            phase: 0,
+            period: 100,
+            deadline: 100,
+            len: 1,
+        };
+        let changed = add(table, i, flow, PLAN);
+        table = changed.table;
+        i += 1;
+    }
+    table
+}

@@ -3,8 +3,7 @@ use crate::books::A;
 use crate::books::A_BYTES;
 use crate::books::B;
 use crate::books::B_BYTES;
-use crate::books::PLAN;
-use crate::books::RECORDS;
+use crate::books::largest;
 use crate::desk::Desk;
 use crate::orders::Order;
 use crate::said::say_bounds;
@@ -12,7 +11,6 @@ use crate::said::say_bytes;
 use listing::lines::print_answer;
 use listing::listed::list;
 use table::table::Table;
-use table::table::table_of;
 use trade::Flow;
 use trade::Node;
 use trade::Plan;
@@ -28,7 +26,7 @@ fn rest(s: &[u8], from: usize) -> &[u8] {
 fn edited(t: Table, word: u8, at: usize, n: u8) -> Table {
     let mut table = t;
     match word {
-        b'C' => { table = table_of(Node::MOST as u8, Flow::MOST as u8, b"", &RECORDS, &PLAN) }
+        b'C' => table = largest(),
         b'N' => table.nodes = n,
         b'M' => table.flows = n,
         b'R' => table.rows[at % (Node::MOST * Node::ROW_BYTES)] = n,

@@ -1,11 +1,12 @@
 -- A flow that comes into a table's sections: with it among the bytes in use they are those of the new table, whose rules can be tested.
 -- Leans on CutLaws, RecutLaws, RulesLaws and the trade's Exchange. Assumes nothing.
-use Prim.Native.Nat.{ℕ, _+_, _*_, _≤_, _<_, min}
+use Prim.Native.Nat.{ℕ, suc, _+_, _-_, _*_, _≤_, _<_, min}
 use mathlib.Core.Path.{_≡_, refl, sym, _∙_, ap, ap₂}
 use mathlib.Core.Logic.{⊎-elim}
 use mathlib.Core.List.{List, []}
 use native.Mathlib.Omega.{arith}
 use native.Mathlib.Nat.{add-zero}
+use borrow.Author.Tests.{lt-ltb, le-ltb}
 use lib.ListN.{length, take}
 use lib.Seq.{length-take-le, take-all}
 use Rattle.trade.specs.Limits.{mostSteps, rowBytes, recordBytes, stepBytes}
@@ -13,7 +14,8 @@ use Rattle.trade.specs.First.{sumTo}
 use Rattle.trade.specs.Bytes.{word, twoBytes, over}
 use Rattle.trade.specs.Layout.{Sections, sections, field}
 use Rattle.trade.specs.Facts.{factsOf, firstStep, allSteps}
-use Rattle.trade.specs.Table.{InMemory, used}
+use Rattle.trade.specs.Table.{used}
+use Rattle.trade.specs.Kept.{Tabled, KeptInMemory}
 use Rattle.trade.specs.Exchange.{spliced, recut}
 use Rattle.trade.specs.Codes.{badRecord, code6}
 use Rattle.trade.specs.Calls.{Adding, recordOf, withFlow, enterRules}
@@ -23,15 +25,22 @@ use Rattle.trade.proofs.Bytes.{word-twoBytes, take-over}
 use Rattle.trade.proofs.Answers.{givenFirst-passed}
 use Rattle.trade.proofs.Valid.{sound}
 use Rattle.trade.proofs.Used.{same-sections, NoMore}
+use Rattle.trade.proofs.Moved.{SamePlan, interference-moved, same-disturbs, plan-before, plan-behind}
+use Rattle.trade.proofs.Kept.{interference-counted}
 use Rattle.trade.proofs.Exchange.{Fits, field-come, new-steps, recut-no-more}
-use Rattle.changes.specs.Change.{New}
+use Rattle.figures.specs.Carried.{beforeIn, OldFigures}
+use Rattle.rules.specs.Rules.{New, Carried}
 use Rattle.changes.specs.Moved.{coming, Coming}
 use Rattle.cut.proofs.CutLaws.{length-entered}
 use Rattle.changes.proofs.RecutLaws.{steps-most, old-full, old-first, steps-cut}
-use Rattle.changes.proofs.RulesLaws.{passed-in-range, old-passed, place-passed, askAnswer, enter-room}
+use Rattle.changes.proofs.RecutLaws.{passed-in-range, passed-right-used}
+use Rattle.rules.proofs.RulesLaws.{old-passed, place-passed, askAnswer, enter-room}
 
 -- A FLOW COMES, with this record and these steps
-module _ (t : Sections) (place : ℕ) (flow plan : List ℕ) (c : Coming t place flow plan) where
+module _ (held : Tabled) (place : ℕ) (flow plan : List ℕ) (c : Coming held place flow plan) where
+  abbrev t : Sections
+  t = held .sections
+
   abbrev new : Sections
   new = recut (used t) (coming place flow plan)
 
@@ -129,9 +138,59 @@ module _ (t : Sections) (place : ℕ) (flow plan : List ℕ) (c : Coming t place
         steps = λ e. omega (arith, new-all, len-most e, length-new-steps, c .planned);
       }
 
+  -- THE FLOWS that were there keep their plans, where code 6 passes,
+  exact : code6 (factsOf new) .code ≡ 0 → length plan ≡ stepBytes * sumTo (λ i. field flow i 4) 1
+  unfolding sumTo
+  exact e = omega (arith, c .planned, len-most e)
+
+  kept-plan : code6 (factsOf new) .code ≡ 0 → (i : ℕ) → (i ≡ place → ⊥) → SamePlan (factsOf new) (factsOf (used t)) i (beforeIn place i)
+  unfolding beforeIn
+  kept-plan e i other =
+      ⊎-elim
+      (λ (l : i < place). rw (lt-ltb i place l) (plan-before (used t) (coming place flow plan) (old-full t (c .old)) fits i l))
+      (λ (l : place ≤ i).
+      let k : ℕ = i - suc place in
+      let new-at : place + 1 + k ≡ i = omega (arith, other) in
+      let old-at : place + k ≡ i - 1 = omega (arith, other) in
+      rw (le-ltb i place l) (rw (new-at, old-at) at (plan-behind (used t) (coming place flow plan) (old-full t (c .old)) fits (exact e) k)))
+      (lt-or-ge i place)
+
+  -- stand in the order they stood in,
+  was-below : (i : ℕ) → i < t .flows + 1 → (i ≡ place → ⊥) → beforeIn place i < t .flows
+  unfolding beforeIn
+  was-below i h other =
+      ⊎-elim (λ (l : i < place). rw (lt-ltb i place l) (omega (arith, c .within))) (λ (l : place ≤ i). rw (le-ltb i place l) (omega (arith, other))) (lt-or-ge i place)
+
+  was-above : (l h : ℕ) → h < l → (l ≡ place → ⊥) → (h ≡ place → ⊥) → beforeIn place h < beforeIn place l
+  unfolding beforeIn
+  was-above l h above p q =
+      ⊎-elim
+      (λ (u : l < place). rw (lt-ltb l place u, lt-ltb h place (omega arith)) above)
+      (λ (u : place ≤ l).
+      ⊎-elim (λ (v : h < place). rw (le-ltb l place u, lt-ltb h place v) (omega (arith, p))) (λ (v : place ≤ h). rw (le-ltb l place u, le-ltb h place v) (omega (arith, p, q))) (lt-or-ge h place))
+      (lt-or-ge l place)
+
+  -- and so the figures of the old table are theirs
+  old-figures : code6 (factsOf new) .code ≡ 0 → OldFigures (new .flows) place (new .rows) (new .records) (new .steps) (held .figures)
+  unfolding recut used
+  old-figures e =
+      record {
+        within = omega (arith, c .within);
+        size = c .size;
+        figures =
+            λ l h l< above p q.
+            c .right (beforeIn place l) (beforeIn place h) (was-below l (omega arith) p) (was-above l h above p q)
+            ∙ sym (interference-moved (factsOf new) (factsOf (used t)) (same-disturbs (used t) (coming place flow plan) (old-full t (c .old)) fits) l h (beforeIn place l) (beforeIn place h) (kept-plan e l p) (kept-plan e h q))
+            ∙ interference-counted (new .nodes) (new .flows) 0 0 (new .rows) (new .records) (new .steps) l h;
+      }
+
+  pub new-carried : (figures : List ℕ) → figures ≡ held .figures → Carried new place (held .figures) figures
+  unfolding recut used
+  new-carried figures e = record { copied = e; size = c .size; within = omega (arith, c .within); right = old-figures }
+
 -- ADDING, where the old table and the place have passed
 pub record Enters (a : Adding) : Type 0 where
-  pub memory : InMemory (a .table)
+  pub memory : KeptInMemory (a .table)
   pub plan : length (a .plan) ≡ stepBytes * mostSteps
   pub len : a .flow .len < 65536
   pub asked : askAnswer a .code ≡ 0
@@ -151,10 +210,13 @@ module _ (a : Adding) (e : Enters a) where
 
   pub enter-comes : Coming (a .table) (a .place) (recordOf (a .flow)) taken
   enter-comes =
-      let old = passed-in-range (a .table) (e .memory) (old-passed (λ b. b .table) enterRules a (e .asked)) in
+      let passed = old-passed (λ b. b .table) enterRules a (e .asked) in
+      let old = passed-in-range (a .table) (e .memory) passed in
       let (room, within) = enter-room a (place-passed (λ b. b .table) enterRules a (e .asked)) in
       record {
         old = old;
+        size = e .memory .figures;
+        right = passed-right-used (a .table) passed;
         room = omega (arith, old .flows, room);
         within = within;
         recorded = its-record;
@@ -175,6 +237,6 @@ module _ (a : Adding) (e : Enters a) where
       all-of (stepBytes * min (a .flow .len) mostSteps) (omega (arith, e .plan)) ∙ sym (all-of (stepBytes * a .flow .len) (omega (arith, e .plan))))
       (lt-or-ge (a .flow .len) mostSteps)
 
-  pub enter-made : recut (used (a .table)) (coming (a .place) (recordOf (a .flow)) taken) ≡ withFlow a
+  pub enter-made : recut (used (a .table .sections)) (coming (a .place) (recordOf (a .flow)) taken) ≡ withFlow a
   unfolding withFlow
-  enter-made = ap (λ (steps : List ℕ). recut (used (a .table)) (coming (a .place) (recordOf (a .flow)) steps)) its-steps
+  enter-made = ap (λ (steps : List ℕ). recut (used (a .table .sections)) (coming (a .place) (recordOf (a .flow)) steps)) its-steps

@@ -1,7 +1,9 @@
 -- A flow that goes from a table's sections: what is in use without it is the new table. Leans on CutLaws, RecutLaws, RulesLaws and the trade's
 -- Exchange. Assumes nothing.
-use Prim.Native.Nat.{ℕ, suc, _+_, _-_, _*_, _≤_}
-use mathlib.Core.Path.{_≡_, refl, _∙_, ap, ap₂}
+use Prim.Native.Nat.{ℕ, suc, _+_, _-_, _*_, _≤_, _<_}
+use mathlib.Core.Path.{_≡_, refl, sym, _∙_, ap, ap₂}
+use mathlib.Core.Logic.{⊎-elim}
+use borrow.Author.Tests.{lt-ltb, le-ltb}
 use mathlib.Core.List.{List, []}
 use native.Mathlib.Numerals.{add-one}
 use native.Mathlib.Omega.{arith}
@@ -9,20 +11,30 @@ use lib.ListN.{length, take}
 use Rattle.trade.specs.Limits.{rowBytes, recordBytes, stepBytes}
 use Rattle.trade.specs.First.{sumTo}
 use Rattle.trade.specs.Layout.{Sections, sections, field}
-use Rattle.trade.specs.Table.{InMemory, used}
+use Rattle.trade.specs.Facts.{factsOf}
+use Rattle.trade.specs.Table.{used}
+use Rattle.trade.specs.Interference.{interference}
+use Rattle.trade.specs.Kept.{Tabled, KeptInMemory, figureIn, figuresOf}
 use Rattle.trade.specs.Exchange.{spliced, recut}
 use Rattle.trade.specs.Calls.{Removing, leaving, leaveRules, removeAnswer}
 use Rattle.trade.proofs.Sums.{sum-le}
 use Rattle.trade.proofs.Used.{same-sections, NoMore}
+use Rattle.trade.proofs.First.{lt-or-ge}
+use Rattle.trade.proofs.Moved.{SamePlan, interference-moved, same-disturbs, plan-before, plan-behind}
+use Rattle.trade.proofs.Kept.{square-same}
 use Rattle.trade.proofs.Exchange.{Fits, recut-no-more}
 use Rattle.changes.specs.Moved.{Leaving}
 use Rattle.cut.specs.Turned.{turned}
 use Rattle.cut.proofs.CutLaws.{left-front}
-use Rattle.changes.proofs.RecutLaws.{steps-most, old-full, steps-cut}
-use Rattle.changes.proofs.RulesLaws.{passed-in-range, old-passed, place-passed, leave-there}
+use Rattle.figures.specs.Carried.{beforeOut, withoutFigures}
+use Rattle.changes.proofs.RecutLaws.{steps-most, old-full, steps-cut, passed-in-range, passed-right-used}
+use Rattle.rules.proofs.RulesLaws.{old-passed, place-passed, leave-there}
 
 -- A FLOW GOES
-module _ (t : Sections) (place : ℕ) (c : Leaving t place) where
+module _ (held : Tabled) (place : ℕ) (c : Leaving held place) where
+  abbrev t : Sections
+  t = held .sections
+
   abbrev new : Sections
   new = recut (used t) (leaving place)
 
@@ -72,11 +84,67 @@ module _ (t : Sections) (place : ℕ) (c : Leaving t place) where
       (omega (arith, step-room))
       ∙ steps-cut t (c .old) (leaving place) first next last (omega arith) (omega (arith, c .within)) e₁ (e₂ ∙ ap (sumTo lens) (add-one place)) e₃)
 
+  -- THE FLOWS that are left keep their plans,
+  kept-plan : (i : ℕ) → SamePlan (factsOf new) (factsOf (used t)) i (beforeOut place i)
+  unfolding beforeOut sumTo
+  kept-plan i =
+      ⊎-elim
+      (λ (l : i < place). rw (lt-ltb i place l) (plan-before (used t) (leaving place) (old-full t (c .old)) fits i l))
+      (λ (l : place ≤ i).
+      let k : ℕ = i - place in
+      let new-at : place + 0 + k ≡ i = omega arith in
+      let old-at : suc place + k ≡ suc i = omega arith in
+      rw (le-ltb i place l) (rw (new-at, old-at) at (plan-behind (used t) (leaving place) (old-full t (c .old)) fits refl k)))
+      (lt-or-ge i place)
+
+  was-below : (i : ℕ) → i < t .flows - 1 → beforeOut place i < t .flows
+  unfolding beforeOut
+  was-below i h =
+      ⊎-elim (λ (l : i < place). rw (lt-ltb i place l) (omega arith)) (λ (l : place ≤ i). rw (le-ltb i place l) (omega arith)) (lt-or-ge i place)
+
+  was-above : (l h : ℕ) → h < l → beforeOut place h < beforeOut place l
+  unfolding beforeOut
+  was-above l h above =
+      ⊎-elim
+      (λ (u : l < place). rw (lt-ltb l place u, lt-ltb h place (omega arith)) above)
+      (λ (u : place ≤ l).
+      ⊎-elim (λ (v : h < place). rw (le-ltb l place u, lt-ltb h place v) (omega arith)) (λ (v : place ≤ h). rw (le-ltb l place u, le-ltb h place v) (omega arith)) (lt-or-ge h place))
+      (lt-or-ge l place)
+
+  left-figure : (l h : ℕ) → l < t .flows - 1 → h < l → figureIn (held .figures) (beforeOut place l) (beforeOut place h) ≡ interference (factsOf new) l h
+  unfolding used
+  left-figure l h l< above =
+      c .right (beforeOut place l) (beforeOut place h) (was-below l l<) (was-above l h above)
+      ∙ sym (interference-moved (factsOf new) (factsOf (used t)) (same-disturbs (used t) (leaving place) (old-full t (c .old)) fits) l h (beforeOut place l) (beforeOut place h) (kept-plan l) (kept-plan h))
+
+  left-count : factsOf new .flows ≡ t .flows - 1
+  unfolding factsOf recut used
+  left-count = omega (arith, c .within)
+
+  -- so the figures, taken from where they stood, are those of the new table
+  pub left-figures : withoutFigures (t .flows - 1) place (held .figures) ≡ figuresOf (factsOf new)
+  unfolding withoutFigures figuresOf
+  left-figures =
+      square-same _ _
+      (λ l h p q.
+      ⊎-elim
+      (λ (u : l < t .flows - 1).
+      ⊎-elim
+      (λ (v : h < l).
+      rw (lt-ltb l (t .flows - 1) u, lt-ltb l (factsOf new .flows) (omega (arith, left-count)), lt-ltb h l v) (left-figure l h u v))
+      (λ (v : l ≤ h). rw (lt-ltb l (t .flows - 1) u, lt-ltb l (factsOf new .flows) (omega (arith, left-count)), le-ltb h l v) refl)
+      (lt-or-ge h l))
+      (λ (u : t .flows - 1 ≤ l). rw (le-ltb l (t .flows - 1) u, le-ltb l (factsOf new .flows) (omega (arith, left-count))) refl)
+      (lt-or-ge l (t .flows - 1)))
+
 -- REMOVING, where the old table and the place have passed: the flow may go
-pub leave-goes : (r : Removing) → InMemory (r .table) → removeAnswer r .code ≡ 0 → Leaving (r .table) (r .place)
+pub leave-goes : (r : Removing) → KeptInMemory (r .table) → removeAnswer r .code ≡ 0 → Leaving (r .table) (r .place)
 unfolding removeAnswer
 leave-goes r m e =
+    let passed = old-passed (λ q. q .table) leaveRules r e in
     record {
-      old = passed-in-range (r .table) m (old-passed (λ q. q .table) leaveRules r e);
+      old = passed-in-range (r .table) m passed;
+      size = m .figures;
+      right = passed-right-used (r .table) passed;
       within = leave-there r (place-passed (λ q. q .table) leaveRules r e);
     }

@@ -15,6 +15,12 @@ use Rattle.trade.specs.Exchange.{spliced, Exchange, recut}
 use Rattle.trade.proofs.Sums.{sum-most}
 use Rattle.trade.proofs.Places.{same-firstStep}
 use Rattle.trade.proofs.Used.{same-sections, used-same, NoMore, no-more-table, Holds, Full, used-full}
+use Rattle.trade.specs.Kept.{Tabled, KeptInMemory, RightFigures}
+use Rattle.trade.specs.Calls.{oldRules}
+use Rattle.trade.proofs.Answers.{Passed}
+use Rattle.trade.proofs.Valid.{table-valid}
+use Rattle.trade.proofs.Kept.{alike-right}
+use Rattle.rules.proofs.RulesLaws.{passed-form, passed-figures}
 use Rattle.changes.specs.Moved.{InRange}
 
 -- THE SECTIONS of a table in memory, its counts in range and no L above the most, hold their used places
@@ -75,3 +81,13 @@ cleared s new rows records steps a b c e no-more ea eb ec er es et =
     (es ∙ ap (λ (n : ℕ). padded n (s .records)) eb) (et ∙ ap (λ (n : ℕ). padded n (s .steps)) ec)
     ∙ ap table e
     ∙ sym (no-more-table new no-more)
+
+-- a table in memory that has passed is in range, and its figures are right, read at its used places
+pub passed-in-range : (t : Tabled) → KeptInMemory t → Passed t oldRules → InRange (t .sections)
+unfolding factsOf
+passed-in-range t m p =
+    let v = table-valid (t .sections) (passed-form t p) in
+    record { memory = m .sections; nodes = v .nodes .most; flows = v .flows; lens = λ i h. v .records i h .len .most }
+
+pub passed-right-used : (t : Tabled) → Passed t oldRules → RightFigures (record { sections = used (t .sections); figures = t .figures })
+passed-right-used t p = alike-right (t .sections) (used (t .sections)) (t .figures) (used-same (t .sections)) (passed-form t p) (passed-figures t p)

@@ -2,7 +2,7 @@
 // table. The old table is handed back where one of them refuses. A change is made where the sections lie, in one copy of them: each move
 // of a table by value would be another on the stack.
 ghost use Rattle.changes.specs.Change.{Adds, Removes};
-ghost use Rattle.table.specs.Table.{sectionsIn};
+ghost use Rattle.table.specs.Table.{keptIn};
 use crate::entering::enter;
 use crate::leaving::leave;
 use table::table::Table;
@@ -16,21 +16,25 @@ pub struct Changed {
     pub table: Table,
 }
 
-// ADD a flow at a place: codes 3, 5, 6 and 8 on the old table, 14, 15, then 6 and 8 and 9 on the new one. Refused, the table as
+// ADD a flow at a place: codes 3, 5, 6, 8 and 17 on the old table, 14, 15, then 6 and 8 and 9 on the new one. Refused, the table as
 // handed in.
 pub fn add(t: Table, place: usize, flow: Flow, plan: [u8; Plan::MOST * Plan::STEP_BYTES]) -> Changed
-    ensures { λ r. ⌜ Adds (record { table = sectionsIn t; place = place; flow = flow; plan = plan }) r ⌝ }
+    ensures { λ r. ⌜ Adds (record { table = keptIn t; place = place; flow = flow; plan = plan }) r ⌝ }
 {
     let mut flows = t.flows;
     let mut rows = t.rows;
     let mut records = t.records;
     let mut steps = t.steps;
+    let old = t.figures;
+    let mut figures = t.figures;
     let answer = enter(
         t.nodes,
         &mut flows,
         &mut rows,
         &mut records,
         &mut steps,
+        &old,
+        &mut figures,
         place,
         flow,
         plan,
@@ -43,24 +47,29 @@ pub fn add(t: Table, place: usize, flow: Flow, plan: [u8; Plan::MOST * Plan::STE
             rows,
             records,
             steps,
+            figures,
         },
     }
 }
 
-// REMOVE the flow at a place: codes 3, 5, 6 and 8, then 15. Refused, the table as handed in.
+// REMOVE the flow at a place: codes 3, 5, 6, 8 and 17, then 15. Refused, the table as handed in.
 pub fn remove(t: Table, place: usize) -> Changed
-    ensures { λ r. ⌜ Removes (record { table = sectionsIn t; place = place }) r ⌝ }
+    ensures { λ r. ⌜ Removes (record { table = keptIn t; place = place }) r ⌝ }
 {
     let mut flows = t.flows;
     let mut rows = t.rows;
     let mut records = t.records;
     let mut steps = t.steps;
+    let old = t.figures;
+    let mut figures = t.figures;
     let answer = leave(
         t.nodes,
         &mut flows,
         &mut rows,
         &mut records,
         &mut steps,
+        &old,
+        &mut figures,
         place,
     );
     Changed {
@@ -71,6 +80,7 @@ pub fn remove(t: Table, place: usize) -> Changed
             rows,
             records,
             steps,
+            figures,
         },
     }
 }

@@ -2,18 +2,17 @@
 ghost use mathlib.Core.Path.{_≡_};
 ghost use Prim.Native.Nat.{min};
 ghost use Rattle.trade.specs.Limits.{mostSteps};
-ghost use Rattle.trade.specs.Layout.{sections};
-ghost use Rattle.trade.specs.Table.{InMemory};
+ghost use Rattle.trade.specs.Kept.{tabled, KeptInMemory};
 ghost use Rattle.trade.specs.Calls.{recordOf, addOf};
 ghost use Rattle.changes.specs.Change.{Returns};
 ghost use Rattle.changes.specs.Moved.{Coming, Comes};
-use crate::rules::enter_answer;
-use crate::rules::old_answer;
-use crate::rules::used_answer;
 use cut::cut::clear;
 use cut::cut::put_in;
 use cut::cut::take_out;
 use numbers::numbers::put_word;
+use rules::rules::enter_answer;
+use rules::rules::old_answer;
+use rules::rules::used_answer;
 use sections::records::steps_before;
 use trade::Answer;
 use trade::Flow;
@@ -45,22 +44,24 @@ fn places_taken(f: Flow) -> usize
     len
 }
 
-// A flow with this record and these steps put in, and codes 6, 8 and 9 on the table with it. Done, the unused places are zero; refused,
-// it is taken out again.
+// A flow with this record and these steps put in, and codes 6, 8 and 9 on the table with it. Done, the unused places are zero and the
+// figures those of the new table; refused, it is taken out again. The figures are lent twice, as they were and to be changed.
 fn flow_in(
     nodes: usize,
     flows: &mut u8,
     rows: &mut [u8],
     records: &mut [u8],
     steps: &mut [u8],
+    old: &[u8],
+    figures: &mut [u8],
     place: usize,
     flow: &mut [u8],
     plan: &mut [u8],
 ) -> Answer
-    requires { ⌜ Coming (sections nodes (now flows) (now rows) (now records) (now steps)) place (now flow) (now plan) ⌝ }
-    ensures { λ r. ⌜ Comes (sections nodes (now (flows .entry)) (now (rows .entry)) (now (records .entry)) (now (steps .entry))) place
+    requires { ⌜ Coming (tabled nodes (now flows) (now rows) (now records) (now steps) (now old)) place (now flow) (now plan) × (now figures ≡ now old) ⌝ }
+    ensures { λ r. ⌜ Comes (tabled nodes (now (flows .entry)) (now (rows .entry)) (now (records .entry)) (now (steps .entry)) (now (old .entry))) place
         (now (flow .entry)) (now (plan .entry)) r
-        (sections nodes (now (flows .exit)) (now (rows .exit)) (now (records .exit)) (now (steps .exit))) ⌝ }
+        (tabled nodes (now (flows .exit)) (now (rows .exit)) (now (records .exit)) (now (steps .exit)) (now (figures .exit))) ⌝ }
 {
     let count = *flows as usize;
     let at = Flow::RECORD_BYTES * place;
@@ -70,7 +71,17 @@ fn flow_in(
     let new_end = step_end + plan.len();
     put_in(records, at, end, flow);
     put_in(steps, step_at, step_end, plan);
-    let answer = used_answer(nodes, count + 1, rows, records, steps, new_end);
+    let answer = used_answer(
+        nodes,
+        count + 1,
+        rows,
+        records,
+        steps,
+        new_end,
+        place,
+        old,
+        figures,
+    );
     if answer.code != 0 {
         take_out(records, at, end, flow);
         take_out(steps, step_at, step_end, plan);
@@ -83,28 +94,30 @@ fn flow_in(
     answer
 }
 
-// Codes 3, 5, 6 and 8 on the table, 14 and 15, then 6, 8 and 9 on the one with the flow. Refused, the table stays as it is.
+// Codes 3, 5, 6, 8 and 17 on the table, 14 and 15, then 6, 8 and 9 on the one with the flow. Refused, the table stays as it is.
 pub(crate) fn enter(
     nodes: u8,
     flows: &mut u8,
     rows: &mut [u8],
     records: &mut [u8],
     steps: &mut [u8],
+    old: &[u8],
+    figures: &mut [u8],
     place: usize,
     flow: Flow,
     plan: [u8; Plan::MOST * Plan::STEP_BYTES],
 ) -> Answer
-    requires { ⌜ InMemory (sections nodes (now flows) (now rows) (now records) (now steps)) ⌝ }
+    requires { ⌜ KeptInMemory (tabled nodes (now flows) (now rows) (now records) (now steps) (now old)) × (now figures ≡ now old) ⌝ }
     ensures { λ r. ⌜ Returns (addOf (record {
-      table = sections nodes (now (flows .entry)) (now (rows .entry)) (now (records .entry)) (now (steps .entry));
+      table = tabled nodes (now (flows .entry)) (now (rows .entry)) (now (records .entry)) (now (steps .entry)) (now (old .entry));
       place = place;
       flow = flow;
       plan = plan;
-    })) r (sections nodes (now (flows .exit)) (now (rows .exit)) (now (records .exit)) (now (steps .exit))) ⌝ }
+    })) r (tabled nodes (now (flows .exit)) (now (rows .exit)) (now (records .exit)) (now (steps .exit)) (now (figures .exit))) ⌝ }
 {
     let count = *flows as usize;
     let placed = enter_answer(count, place);
-    let asked = old_answer(nodes as usize, count, rows, records, steps, placed);
+    let asked = old_answer(nodes as usize, count, rows, records, steps, old, placed);
     if asked.code != 0 {
         return asked;
     }
@@ -117,6 +130,8 @@ pub(crate) fn enter(
         rows,
         records,
         steps,
+        old,
+        figures,
         place,
         &mut record,
         &mut taken[..size],

@@ -2,4 +2,3 @@
 pub mod change;
 mod entering;
 mod leaving;
-mod rules;

@@ -3,4 +3,6 @@ pub mod Padded
 pub mod RisesLaws
 pub mod LanesLaws
 pub mod FiguresLaws
+pub mod KeptLaws
+pub mod CarriedLaws
 pub mod Unique

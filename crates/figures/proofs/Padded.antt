@@ -4,12 +4,15 @@ use Prim.Native.Nat.{ℕ, _+_, _-_, _≤_, _<_}
 use mathlib.Core.Path.{_≡_, sym, _∙_}
 use mathlib.Core.List.{List}
 use mathlib.Core.Logic.{⊎-elim}
+use mathlib.Core.Bool.{true, false}
 use native.Mathlib.Omega.{arith}
+use borrow.Author.Tests.{eqb-true, eqb-false}
+use lib.Dec.{eqb}
 use lib.ListN.{length, getD, set, replicate, length-append, length-set, length-replicate, List·getD-append}
 use lib.Seq.{ext-getD, getD-append-add, getD-set-same, getD-set-other}
 use Rattle.trade.specs.First.{listTo, listFrom}
 use Rattle.trade.specs.Bytes.{padded}
-use Rattle.trade.proofs.First.{lt-or-ge}
+use Rattle.trade.proofs.First.{bool-cases, lt-or-ge}
 use Rattle.trade.proofs.Sums.{length-listTo, getD-listTo}
 use Rattle.pairs.proofs.SpreadLaws.{zeros}
 
@@ -80,3 +83,30 @@ filled-same room figure other n h e =
     ⊎-elim (λ (b : i < n). filled-at room figure n i b ∙ e i b ∙ sym (filled-at room other n i b))
     (λ (b : n ≤ i). filled-behind room figure n i b ∙ sym (filled-behind room other n i b))
     (lt-or-ge i n))
+
+-- a list that agrees with other figures but at one place, with the figure of that place put there
+pub filled-set :
+    (room : ℕ) (figure other : ℕ → ℕ) (n at : ℕ)
+    → n ≤ room
+    → at < n
+    → ((i : ℕ) → i < n → (i ≡ at → ⊥) → figure i ≡ other i)
+    → set (filled room figure n) at (other at) ≡ filled room other n
+filled-set room figure other n at h l e =
+    ext-getD 0 (set (filled room figure n) at (other at)) (filled room other n)
+    (length-set (filled room figure n) at (other at) ∙ length-filled room figure n h ∙ sym (length-filled room other n h))
+    (λ i b. ⊎-elim (λ (p : i < n). below i p) (λ (p : n ≤ i). behind i p) (lt-or-ge i n))
+  where
+    rest : (i : ℕ) → (i ≡ at → ⊥) → getD (set (filled room figure n) at (other at)) i 0 ≡ getD (filled room figure n) i 0
+    rest i d = getD-set-other (filled room figure n) at i (other at) 0 d
+
+    below : (i : ℕ) → i < n → getD (set (filled room figure n) at (other at)) i 0 ≡ getD (filled room other n) i 0
+    below i p =
+        ⊎-elim
+        (λ (q : eqb i at ≡ true).
+        rw (eqb-true i at q)
+        (getD-set-same (filled room figure n) at (other at) 0 (omega (arith, length-filled room figure n h)) ∙ sym (filled-at room other n at l)))
+        (λ (q : eqb i at ≡ false). rest i (eqb-false i at q) ∙ filled-at room figure n i p ∙ e i p (eqb-false i at q) ∙ sym (filled-at room other n i p))
+        (bool-cases (eqb i at))
+
+    behind : (i : ℕ) → n ≤ i → getD (set (filled room figure n) at (other at)) i 0 ≡ getD (filled room other n) i 0
+    behind i p = rest i (λ d. omega arith) ∙ filled-behind room figure n i p ∙ sym (filled-behind room other n i p)

@@ -7,10 +7,10 @@ use lib.ListN.{length, getD}
 use Rattle.trade.specs.Limits.{mostNodes, mostSteps, stepBytes}
 use Rattle.trade.specs.First.{some}
 use Rattle.trade.specs.Bytes.{bit}
-use Rattle.trade.specs.Facts.{disturbsIn, stepIn}
-use Rattle.trade.specs.Interference.{worstPath}
+use Rattle.trade.specs.Facts.{factsIn, disturbsIn, stepIn}
+use Rattle.trade.specs.Interference.{worstPath, interference}
 use Rattle.plans.specs.Plan.{stepsIn}
-use Rattle.pairs.specs.Columns.{ending, Hears, matrixBy}
+use Rattle.pairs.specs.Columns.{ending, Hears, Narrow, matrixBy}
 use Rattle.sections.specs.Formed.{planStart, planAt}
 
 -- the figure of a plan, by the columns of the one below it, which has n steps
@@ -34,3 +34,10 @@ AllHeard l rows records steps heard =
     → h < l
     → j < stepsIn (planAt records steps h)
     → Hears rows heard (stepIn (planAt records steps h) j .sender .0) × Hears rows heard (stepIn (planAt records steps h) j .receiver .0)
+
+-- columns of the plan of l, of so many steps, that give the figure of each flow above it
+pub record Weighs (rows records steps : List ℕ) (l width : ℕ) (columns : List ℕ) : Type 0 where
+  pub size : length columns ≡ mostNodes
+  pub short : width ≤ mostSteps
+  pub narrow : Narrow width columns
+  pub figure : (h : ℕ) → h < l → figureBy columns width (planAt records steps h) ≡ interference (factsIn 0 0 rows records steps) l h

@@ -2,3 +2,4 @@
 pub mod Figures
 pub mod Rises
 pub mod Lanes
+pub mod Carried

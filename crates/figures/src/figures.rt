@@ -9,9 +9,10 @@ ghost use Rattle.trade.specs.Facts.{factsIn};
 ghost use Rattle.trade.specs.Interference.{interference};
 ghost use Rattle.pairs.specs.Columns.{Narrow};
 ghost use Rattle.sections.specs.Formed.{Formed, planAt};
-ghost use Rattle.figures.specs.Figures.{figureBy, Asked, HeardIn, AllHeard};
+ghost use Rattle.figures.specs.Figures.{figureBy, Asked, HeardIn, AllHeard, Weighs};
 use crate::lanes::lay_group;
 use crate::lanes::read_out;
+use crate::rises::taken;
 use crate::rises::worked_out;
 use pairs::columns::gather;
 use pairs::columns::hear;
@@ -71,7 +72,27 @@ pub fn hear_above(flows: usize, rows: &[u8], records: &[u8], steps: &[u8], heard
     }
 }
 
-// The same, the columns gathered, of the plan with its repeated steps once. The first flow has none above it.
+// The columns of the plan of l, with its repeated steps once, gathered into blank ones; how many steps it then has.
+fn columns_at(
+    rows: &[u8],
+    heard: &[u64],
+    records: &[u8],
+    steps: &[u8],
+    l: usize,
+    columns: &mut [u64],
+) -> usize
+    requires { ⌜ Formed (l + 1) (now rows) (now records) (now steps) ⌝ }
+    requires { ⌜ (mostNodes ≤ length (now heard)) × AllHeard l (now rows) (now records) (now steps) (now heard) ⌝ }
+    requires { ⌜ (length (now columns) ≡ mostNodes) × ((x : ℕ) → x < mostNodes → getD (now columns) x 0 ≡ 0) ⌝ }
+    ensures { λ r. ⌜ Weighs (now (rows .entry)) (now (records .entry)) (now (steps .entry)) l r (now (columns .exit)) ⌝ }
+{
+    let mut once = [0u8; Plan::MOST * Plan::STEP_BYTES];
+    let width = single(plan_at(records, steps, l), &mut once);
+    gather(rows, heard, plan_part(&once, 0, width), columns);
+    width
+}
+
+// The interference of each flow above l on it, zeros elsewhere. The first flow has none above it.
 pub fn figures_at(
     rows: &[u8],
     heard: &[u64],
@@ -87,8 +108,28 @@ pub fn figures_at(
         return [0; Flow::MOST];
     }
     let mut columns = [0u64; Node::MOST];
-    let mut once = [0u8; Plan::MOST * Plan::STEP_BYTES];
-    let width = single(plan_at(records, steps, l), &mut once);
-    gather(rows, heard, plan_part(&once, 0, width), &mut columns);
+    let width = columns_at(rows, heard, records, steps, l, &mut columns);
     figures_by(&columns, width, records, steps, l)
+}
+
+// The interference of one flow above l on it.
+pub fn figure_at(
+    rows: &[u8],
+    heard: &[u64],
+    records: &[u8],
+    steps: &[u8],
+    l: usize,
+    h: usize,
+) -> u32
+    requires { ⌜ Formed (l + 1) (now rows) (now records) (now steps) × (h < l) ⌝ }
+    requires { ⌜ (mostNodes ≤ length (now heard)) × AllHeard l (now rows) (now records) (now steps) (now heard) ⌝ }
+    ensures { λ r. ⌜ r ≡ interference (factsIn 0 0 (now (rows .entry)) (now (records .entry)) (now (steps .entry))) l h ⌝ }
+{
+    let mut columns = [0u64; Node::MOST];
+    let width = columns_at(rows, heard, records, steps, l, &mut columns);
+    let start = steps_before(records, h);
+    let mut words = [0u64; Plan::MOST];
+    let laid = lay_group(&columns, width, records, steps, h, start, h + 1, &mut words);
+    let line = worked_out(&words, laid.longest, laid.ends);
+    taken(line, width)
 }

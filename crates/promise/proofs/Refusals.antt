@@ -1,6 +1,6 @@
 -- Demand 1, of the program that the definitions describe and so of every program that meets its contracts. Assumes nothing.
 use mathlib.Core.Path.{refl}
-use Rattle.trade.specs.Calls.{readOf, checkOf, checkBy, writeOf, addOf, removeOf, startOf, startBy, advanceOf, advanceBy}
+use Rattle.trade.specs.Calls.{readOf, checkOf, checkBy, checkKeptOf, writeOf, addOf, removeOf, startOf, startBy, advanceOf, advanceBy}
 use Rattle.promise.specs.Demands.{Program, planner, Demand1}
 use Rattle.trade.proofs.Answers.{refused-second}
 use Rattle.promise.specs.Promise.{Meets}
@@ -8,11 +8,12 @@ use Rattle.promise.proofs.Meets.{by-definition, by-meeting}
 
 -- DEMAND 1 is kept by the program that the definitions describe,
 pub planner-keeps-demand-1 : Demand1 planner
-unfolding readOf checkBy writeOf addOf removeOf startBy advanceBy
+unfolding readOf checkBy checkKeptOf writeOf addOf removeOf startBy advanceBy
 planner-keeps-demand-1 =
     record {
       reads = by-definition readOf _ (λ b. refl);
       checks = by-definition checkOf _ (λ b. refl);
+      checks-tables = by-definition checkKeptOf _ (λ t. refl);
       writes = by-definition writeOf _ (λ w. refl);
       adds = by-definition addOf _ (λ a. refl);
       removes = by-definition removeOf _ (λ r. refl);
@@ -20,6 +21,7 @@ planner-keeps-demand-1 =
       advances = by-definition advanceOf _ (λ a. refl);
       read-refused = by-definition readOf _ (λ b n. refused-second _ _ _ n);
       check-refused = by-definition checkOf _ (λ b n. refused-second _ _ _ n);
+      check-table-refused = by-definition checkKeptOf _ (λ t n. refused-second _ _ _ n);
       write-refused = by-definition writeOf _ (λ w n. refused-second _ _ _ n);
       add-refused = by-definition addOf _ (λ a n. refused-second _ _ _ n);
       remove-refused = by-definition removeOf _ (λ r n. refused-second _ _ _ n);
@@ -34,6 +36,7 @@ keeps-demand-1 p m =
     record {
       reads = by-meeting (m .reads) (d .reads);
       checks = by-meeting (m .checks) (d .checks);
+      checks-tables = by-meeting (m .checks-tables) (d .checks-tables);
       writes = by-meeting (m .writes) (d .writes);
       adds = by-meeting (m .adds) (d .adds);
       removes = by-meeting (m .removes) (d .removes);
@@ -41,6 +44,7 @@ keeps-demand-1 p m =
       advances = by-meeting (m .advances) (d .advances);
       read-refused = by-meeting (m .reads) (d .read-refused);
       check-refused = by-meeting (m .checks) (d .check-refused);
+      check-table-refused = by-meeting (m .checks-tables) (d .check-table-refused);
       write-refused = by-meeting (m .writes) (d .write-refused);
       add-refused = by-meeting (m .adds) (d .add-refused);
       remove-refused = by-meeting (m .removes) (d .remove-refused);

@@ -3,88 +3,83 @@
 use Prim.Native.Nat.{ℕ, _≤_}
 use mathlib.Core.Path.{_≡_, refl, sym, _∙_, ap, subst}
 use mathlib.Core.List.{List}
-use native.Mathlib.Omega.{arith}
 use lib.ListN.{length}
-use borrow.Author.Tests.{eqb-false}
-use Rattle.trade.specs.Limits.{mostFlows}
 use Rattle.trade.specs.Bytes.{over}
 use Rattle.trade.specs.Layout.{Sections}
 use Rattle.trade.specs.Facts.{factsOf}
-use Rattle.trade.specs.Table.{used, bookOf, tableOf}
+use Rattle.trade.specs.Table.{bookOf, tableOf}
+use Rattle.trade.specs.Kept.{Tabled, figureIn, figuresOf, keptOf, RightFigures}
 use Rattle.trade.specs.Answers.{done}
-use Rattle.trade.specs.Codes.{badRow, code3, code5, code14}
 use Rattle.trade.specs.Bound.{code9}
-use Rattle.trade.specs.Exchange.{recut}
-use Rattle.trade.specs.Calls.{Written, Adding, Changed, tableRules, withFlow, enterRules, newRules, addAnswer, boundsOf, readOf, checkOf, writeOf, addOf}
+use Rattle.trade.specs.Calls.{Written, Adding, Changed, tableRules, withFlow, newRules, addAnswer, boundsOf, readOf, checkOf, checkKeptOf, writeOf, addOf}
 use Rattle.trade.specs.declared.answer.Answer.{Answer}
 use Rattle.trade.proofs.Bytes.{take-over}
-use Rattle.trade.proofs.Answers.{done-first, Passed, passed-none, passed-more, passed-head, passed-tail, given-passed}
-use Rattle.trade.proofs.Valid.{Valid, table-valid, code3-passes}
-use Rattle.trade.proofs.Places.{alike-code5, alike-passed, alike-code9}
-use Rattle.trade.proofs.Used.{used-same, table-same, Holds, roomy, in-memory-holds, table-in-memory, table-table}
+use Rattle.trade.proofs.Answers.{done-first, Passed, passed-head, passed-tail}
+use Rattle.trade.proofs.Valid.{table-valid}
+use Rattle.trade.proofs.Places.{alike-passed, alike-code9}
+use Rattle.trade.proofs.Used.{table-same, Holds, roomy, in-memory-holds, table-in-memory, table-table}
 use Rattle.trade.proofs.Calls.{written}
-use Rattle.trade.proofs.RoundTrip.{write-then-read, write-then-check}
+use Rattle.trade.proofs.RoundTrip.{write-then-read, write-then-check, kept-then-check}
+use Rattle.trade.proofs.Kept.{figures-at, alike-figures}
 use Rattle.promise.specs.Demands.{Program, planner, Done}
 use Rattle.promise.specs.Promise.{Meets}
 use Rattle.promise.specs.Tables.{bookIn, OneBook, AddedRuns}
-use Rattle.promise.proofs.Admits.{old-passed, others-passed, new-passed}
+use Rattle.promise.proofs.Admits.{new-passed, with-passes}
 use Rattle.promise.proofs.Promise.{planner-keeps-demand-3, by-planner}
 
 module _ (a : Adding) (e : Done (addAnswer a)) where
-  -- the counts of the new table are within their limits: there was place for one more flow
-  new-code3 : code3 (factsOf (withFlow a)) .code ≡ 0
-  unfolding enterRules code14 factsOf withFlow recut used
-  new-code3 =
-      let v : Valid (factsOf (a .table)) = table-valid (a .table) (old-passed a e) in
-      let full : a .table .flows ≡ mostFlows → ⊥ = eqb-false _ _ (given-passed 13 _ 0 (passed-head (others-passed a e))) in
-      code3-passes (factsOf (withFlow a)) (v .nodes) (record { least = omega arith; most = omega (arith, full, v .flows) })
-
-  -- the rows stay
-  new-code5 : code5 (factsOf (withFlow a)) .code ≡ 0
-  unfolding tableRules code5 badRow factsOf withFlow recut
-  new-code5 =
-      sym (ap (λ (r : Answer). r .code) (alike-code5 (a .table) (used (a .table)) (used-same (a .table))))
-      ∙ passed-head (passed-tail (old-passed a e))
-
-  -- so what is put together passes the rules of a table,
-  with-passes : Passed (withFlow a) tableRules
-  unfolding tableRules newRules
-  with-passes =
-      passed-more new-code3 (passed-more new-code5 (passed-more (passed-head (new-passed a e)) (passed-more (passed-head (passed-tail (new-passed a e))) passed-none)))
-
-  -- and so does the table that add returns, which is a table in memory
+  -- the table that add returns passes the rules of a table, and is a table in memory
   abbrev table : Sections
   table = tableOf (withFlow a)
 
-  added : addOf a .table ≡ table
+  added : addOf a .table ≡ keptOf (withFlow a)
   unfolding addOf
   added = done-first (addAnswer a) _ _ e
 
   table-passes : Passed table tableRules
-  table-passes = alike-passed (withFlow a) table (table-same (withFlow a)) with-passes
+  table-passes = alike-passed (withFlow a) table (table-same (withFlow a)) (with-passes a e)
 
   table-holds : Holds table
   table-holds =
-      in-memory-holds table (table-in-memory (withFlow a) (roomy (withFlow a) (table-valid (withFlow a) with-passes)))
+      in-memory-holds table (table-in-memory (withFlow a) (roomy (withFlow a) (table-valid (withFlow a) (with-passes a e))))
       (roomy table (table-valid table table-passes))
 
   table-bounds : code9 (factsOf table) .code ≡ 0
   unfolding newRules
   table-bounds =
       sym
-      (ap (λ (r : Answer). r .code) (alike-code9 (withFlow a) table (table-same (withFlow a)) with-passes))
+      (ap (λ (r : Answer). r .code) (alike-code9 (withFlow a) table (table-same (withFlow a)) (with-passes a e)))
       ∙ passed-head (passed-tail (passed-tail (new-passed a e)))
 
+  -- its figures are right,
+  figures-same : figuresOf (factsOf (withFlow a)) ≡ figuresOf (factsOf table)
+  figures-same = alike-figures (withFlow a) table (table-same (withFlow a)) (with-passes a e)
+
+  flows-same : factsOf table .flows ≡ table .flows
+  unfolding factsOf
+  flows-same = refl
+
+  table-right : RightFigures (keptOf (withFlow a))
+  unfolding keptOf
+  table-right l h p q =
+      ap (λ (figures : List ℕ). figureIn figures l h) figures-same
+      ∙ figures-at (factsOf table) (table-valid table table-passes .flows) l h (rw flows-same p) q
+
   -- its book is read as it stands
-  table-read : readOf (bookOf table) ≡ record { answer = done 0; table = table }
+  table-read : readOf (bookOf table) ≡ record { answer = done 0; table = keptOf (withFlow a) }
+  unfolding keptOf
   table-read =
       write-then-read table table-holds table-passes
-      ∙ ap (λ (t : Sections). record { answer = done 0; table = t })
-      (table-table (withFlow a) (roomy (withFlow a) (table-valid (withFlow a) with-passes)))
+      ∙ rw (table-table (withFlow a) (roomy (withFlow a) (table-valid (withFlow a) (with-passes a e))), figures-same) refl
 
   -- and accepted with the table's bounds
   table-check : checkOf (bookOf table) ≡ record { answer = done 0; bounds = boundsOf (factsOf table) }
   table-check = write-then-check table table-holds table-passes table-bounds
+
+  -- as the table itself is
+  kept-check : checkKeptOf (keptOf (withFlow a)) ≡ record { answer = done 0; bounds = boundsOf (factsOf table) }
+  unfolding keptOf
+  kept-check = kept-then-check (keptOf (withFlow a)) table-holds table-passes table-right ∙ table-check
 
   -- what is written, into a buffer with room
   module _ (buffer : List ℕ) (room : length (bookOf table) ≤ length buffer) (w : Written) (c : w ≡ writeOf (record { table = table; buffer = buffer })) where
@@ -94,11 +89,13 @@ module _ (a : Adding) (e : Done (addAnswer a)) where
     is-book : bookIn w ≡ bookOf table
     is-book = ap bookIn wrote ∙ take-over (bookOf table) buffer
 
-    one-book : OneBook planner table w
+    one-book : OneBook planner (keptOf (withFlow a)) w
+    unfolding keptOf
     one-book =
         record {
           written = ap (λ (x : Written). x .answer .code) wrote;
           accepted = λ checked k. k ∙ rw is-book table-check;
+          checked = λ checked k. k ∙ kept-check;
           read = λ got g. g ∙ rw is-book table-read;
           again =
               λ got g other more v d.
@@ -111,18 +108,19 @@ module _ (a : Adding) (e : Done (addAnswer a)) where
 
 -- ONE TABLE, ONE BOOK: from add's answer 0, through write, to the run
 pub one-table-one-book : (p : Program) → Meets p → AddedRuns p
-unfolding addOf
+unfolding addOf keptOf
 one-table-one-book p m a changed c e buffer room w d =
     let adds : changed ≡ addOf a = m .adds a changed c in
     let done-a : Done (addAnswer a) = rw adds at e in
-    let is : changed .table ≡ tableOf (withFlow a) = ap (λ (x : Changed). x .table) adds ∙ added a done-a in
+    let is : changed .table ≡ keptOf (withFlow a) = ap (λ (x : Changed). x .table) adds ∙ added a done-a in
     let writes : w ≡ writeOf (record { table = tableOf (withFlow a); buffer = buffer })
-    = m .writes _ w d ∙ ap (λ (t : Sections). writeOf (record { table = t; buffer = buffer })) is in
-    let o : OneBook planner (tableOf (withFlow a)) w = one-book a done-a buffer (rw is at room) w writes in
-    subst (λ (t : Sections). OneBook p t w) (sym is)
+    = m .writes _ w d ∙ ap (λ (t : Tabled). writeOf (record { table = t .sections; buffer = buffer })) is in
+    let o : OneBook planner (keptOf (withFlow a)) w = one-book a done-a buffer (rw is at room) w writes in
+    subst (λ (t : Tabled). OneBook p t w) (sym is)
     (record {
       written = o .written;
       accepted = λ checked k. o .accepted checked (m .checks _ checked k);
+      checked = λ checked k. o .checked checked (m .checks-tables _ checked k);
       read = λ got g. o .read got (m .reads _ got g);
       again = λ got g other more v f. o .again got (m .reads _ got g) other more v (m .writes _ v f);
       runs = λ x same ran. o .runs x same (by-planner p m x ran);

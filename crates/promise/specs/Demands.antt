@@ -1,4 +1,4 @@
--- What a program must do: the customer's three demands, as predicates over any seven calls. Leans on Calls and all below it.
+-- What a program must do: the customer's three demands, as predicates over any eight calls. Leans on Calls and all below it.
 use Prim.Native.Nat.{ℕ, zero, suc, _+_, _-_, _*_, _≤_, _<_}
 use mathlib.Core.Path.{_≡_}
 use mathlib.Core.Logic.{_↔_}
@@ -7,27 +7,29 @@ use mathlib.Core.List.{List, [], _∷_, _++_}
 use lib.ListN.{length, getD, take, drop, replicate}
 use Rattle.trade.specs.Limits.{mostFlows, endOfClock, areaBytes, grantBytes}
 use Rattle.trade.specs.Bytes.{Bytes, byte, word, long, over}
-use Rattle.trade.specs.Layout.{rowsDistance, sectionsOf}
+use Rattle.trade.specs.Layout.{Sections, rowsDistance, sectionsOf}
 use Rattle.trade.specs.Facts.{Facts, factsOf, said, stepOf}
-use Rattle.trade.specs.Table.{InMemory, bookOf, tableOf, emptyTable}
+use Rattle.trade.specs.Table.{InMemory, bookOf}
+use Rattle.trade.specs.Kept.{Tabled, figuresOf, keptOf, emptyKept, RightFigures}
 use Rattle.trade.specs.Answers.{done, refused, firstOf, on, noNumber}
 use Rattle.trade.specs.Codes.{code6, code8}
 use Rattle.trade.specs.Conflict.{conflict}
 use Rattle.trade.specs.Bound.{Measure, measure, Admissible}
 use Rattle.trade.specs.Slot.{releasesOf, Waits, greedy}
-use Rattle.trade.specs.Calls.{Got, Checked, Writing, Written, Adding, Removing, Changed, Starting, Started, Advancing, Advanced, tableRules, enterRules, readAnswer, checkAnswer, writeAnswer, addAnswer, removeAnswer, startAnswer, advanceAnswer, withFlow, withoutFlow, startArea, flowsGranted, grantsIn, nextArea, readOf, checkBy, writeOf, addOf, removeOf, startBy, advanceBy}
+use Rattle.trade.specs.Calls.{Got, Checked, Writing, Written, Adding, Removing, Changed, Starting, Started, Advancing, Advanced, tableRules, keptRules, oldRules, enterRules, readAnswer, checkAnswer, writeAnswer, addAnswer, removeAnswer, startAnswer, advanceAnswer, withFlow, withoutFlow, startArea, flowsGranted, grantsIn, nextArea, readOf, checkBy, checkKeptOf, writeOf, addOf, removeOf, startBy, advanceBy}
 use Rattle.trade.specs.declared.answer.Answer.{Answer}
 use Rattle.trade.specs.declared.clock.Slot.{Slot}
 use Rattle.trade.specs.declared.clock.Instance.{Instance}
 use Rattle.trade.specs.declared.clock.Step.{Step}
 use Rattle.trade.specs.declared.state.Grant.{Grant}
 
--- a program: of each of the seven calls, what it may give for all that it is handed. A call that gave nothing at all would keep
+-- a program: of each of the eight calls, what it may give for all that it is handed. A call that gave nothing at all would keep
 -- every demand below; that each of ours ends with a result is what the check of the code shows, and that its contract can be met is shown
 -- by `Answers`
 pub record Program : Type 1 where
   pub read : List ℕ → Got → Type 0
   pub check : List ℕ → Checked → Type 0
+  pub checkTable : Tabled → Checked → Type 0
   pub write : Writing → Written → Type 0
   pub add : Adding → Changed → Type 0
   pub remove : Removing → Changed → Type 0
@@ -38,6 +40,7 @@ pub record Program : Type 1 where
 pub record Answers (p : Program) : Type 0 where
   pub read : (b : List ℕ) → (given : Got) × p .read b given
   pub check : (b : List ℕ) → (given : Checked) × p .check b given
+  pub checkTable : (t : Tabled) → (given : Checked) × p .checkTable t given
   pub write : (w : Writing) → (given : Written) × p .write w given
   pub add : (a : Adding) → (given : Changed) × p .add a given
   pub remove : (r : Removing) → (given : Changed) × p .remove r given
@@ -50,6 +53,7 @@ plannerBy measured waits =
     record {
       read = λ b given. given ≡ readOf b;
       check = λ b given. given ≡ checkBy measured b;
+      checkTable = λ t given. given ≡ checkKeptOf t;
       write = λ w given. given ≡ writeOf w;
       add = λ a given. given ≡ addOf a;
       remove = λ r given. given ≡ removeOf r;
@@ -77,13 +81,15 @@ Always {A} {B} call so = (handed : A) (given : B) → call handed given → so h
 pub record Demand1 (p : Program) : Type 0 where
   pub reads : Always (p .read) (λ b got. got .answer ≡ readAnswer b)
   pub checks : Always (p .check) (λ b checked. checked .answer ≡ checkAnswer b)
+  pub checks-tables : Always (p .checkTable) (λ t checked. checked .answer ≡ firstOf keptRules noNumber t)
   pub writes : Always (p .write) (λ w written. written .answer ≡ writeAnswer w)
   pub adds : Always (p .add) (λ a changed. changed .answer ≡ addAnswer a)
   pub removes : Always (p .remove) (λ r changed. changed .answer ≡ removeAnswer r)
   pub starts : Always (p .start) (λ s started. started .answer ≡ startAnswer s)
   pub advances : Always (p .advance) (λ a advanced. advanced .answer ≡ advanceAnswer a)
-  pub read-refused : Always (p .read) (λ b got. Refused (got .answer) → got .table ≡ emptyTable)
+  pub read-refused : Always (p .read) (λ b got. Refused (got .answer) → got .table ≡ emptyKept)
   pub check-refused : Always (p .check) (λ b checked. Refused (checked .answer) → checked .bounds ≡ replicate mostFlows 0)
+  pub check-table-refused : Always (p .checkTable) (λ t checked. Refused (checked .answer) → checked .bounds ≡ replicate mostFlows 0)
   pub write-refused : Always (p .write) (λ w written. Refused (written .answer) → written .buffer ≡ w .buffer)
   pub add-refused : Always (p .add) (λ a changed. Refused (changed .answer) → changed .table ≡ a .table)
   pub remove-refused : Always (p .remove) (λ r changed. Refused (changed .answer) → changed .table ≡ r .table)
@@ -99,47 +105,63 @@ reported checked l = getD (checked .bounds) l 0
 abbrev pub AllBounded : Facts → Measure → Type 0
 AllBounded f μ = (l : ℕ) → l < f .flows → (R : ℕ) × Admissible f μ l R
 
--- a check decides by a measure: a well-formed table is accepted exactly when every flow has a response bound within its deadline; the
--- bounds reported are the smallest, zeros elsewhere
-pub record Decides (measured : Facts → Measure) (check : List ℕ → Checked → Type 0) : Type 0 where
-  pub accepts : Always check (λ b checked. Done (readAnswer b) → Done (checked .answer) ↔ AllBounded (said b) (measured (said b)))
+-- a check decides by a measure, of whatever says facts: what is well formed is accepted exactly when every flow has a response bound within
+-- its deadline; the bounds reported are the smallest, zeros elsewhere
+pub record Decides {A : Type 0} (facts : A → Facts) (formed : A → Type 0) (measured : Facts → Measure) (check : A → Checked → Type 0) : Type 0 where
+  pub accepts : Always check (λ b checked. formed b → Done (checked .answer) ↔ AllBounded (facts b) (measured (facts b)))
   pub bounded :
       Always check
       (λ b checked.
       Done (checked .answer)
       → (l : ℕ)
-      → l < said b .flows
-      → Admissible (said b) (measured (said b)) l (reported checked l))
+      → l < facts b .flows
+      → Admissible (facts b) (measured (facts b)) l (reported checked l))
   pub smallest :
       Always check
       (λ b checked.
       Done (checked .answer)
       → (l : ℕ)
-      → l < said b .flows
+      → l < facts b .flows
       → (R : ℕ)
-      → Admissible (said b) (measured (said b)) l R
+      → Admissible (facts b) (measured (facts b)) l R
       → reported checked l ≤ R)
-  pub elsewhere : Always check (λ b checked. Done (checked .answer) → (l : ℕ) → said b .flows ≤ l → reported checked l ≡ 0)
+  pub elsewhere : Always check (λ b checked. Done (checked .answer) → (l : ℕ) → facts b .flows ≤ l → reported checked l ≡ 0)
   pub places : Always check (λ b checked. length (checked .bounds) ≡ mostFlows)
+
+-- of books,
+abbrev pub DecidesBooks : (Facts → Measure) → (List ℕ → Checked → Type 0) → Type 0
+DecidesBooks measured check = Decides said (λ b. Done (readAnswer b)) measured check
+
+-- and of tables whose figures are right
+abbrev pub WellFormed : Sections → Type 0
+WellFormed t = Done (firstOf tableRules noNumber t)
+
+abbrev pub DecidesTables : (Facts → Measure) → (Tabled → Checked → Type 0) → Type 0
+DecidesTables measured check =
+    Decides (λ t. factsOf (t .sections)) (λ t. WellFormed (t .sections)) measured (λ t checked. RightFigures t × check t checked)
+
+-- the figures of a table are those of its flows: each is what its definition says, and every other is zero
+abbrev pub Figured : Tabled → Type 0
+Figured t = t .figures ≡ figuresOf (factsOf (t .sections))
 
 -- what the rules of adding before code 9 answer: those on the old table, on the place, and on the form of the new table
 unfoldable pub formAnswer : Adding → Answer
 formAnswer =
     firstOf
-    (on (λ a. a .table) tableRules ++ (enterRules ++ on withFlow ((λ t. code6 (factsOf t)) ∷ (λ t. code8 (factsOf t)) ∷ [])))
+    (on (λ a. a .table) oldRules ++ (enterRules ++ on withFlow ((λ t. code6 (factsOf t)) ∷ (λ t. code8 (factsOf t)) ∷ [])))
     noNumber
 
 -- DEMAND 2. Books are read and written exactly by the layout; conflict, interference and the greedy choice are those of the
 -- definitions; a well-formed table is accepted exactly when every flow has a response bound within its deadline, and the bound
 -- reported is the smallest
 pub record Demand2 (p : Program) : Type 0 where
-  pub reads : Always (p .read) (λ b got. Done (readAnswer b) → got ≡ record { answer = done 0; table = tableOf (sectionsOf b) })
+  pub reads : Always (p .read) (λ b got. Done (readAnswer b) → got ≡ record { answer = done 0; table = keptOf (sectionsOf b) })
   pub writes :
       Always (p .write)
       (λ w written.
       Done (writeAnswer w)
       → written ≡ record { answer = done (length (bookOf (w .table))); buffer = over (bookOf (w .table)) (w .buffer) })
-  -- reading a written book gives the table back with its unused places zero
+  -- reading a written book gives the table back with its unused places zero and its figures right, whatever they were
   pub write-read :
       Always (p .write)
       (λ w written.
@@ -147,7 +169,7 @@ pub record Demand2 (p : Program) : Type 0 where
       → Done (written .answer)
       → (got : Got)
       → p .read (take (written .answer .number) (written .buffer)) got
-      → got ≡ record { answer = done 0; table = tableOf (w .table) })
+      → got ≡ record { answer = done 0; table = keptOf (w .table) })
   -- writing a read table gives the book's bytes: those at the end of the slice, whatever stood before them
   pub read-write :
       Always (p .read)
@@ -157,10 +179,21 @@ pub record Demand2 (p : Program) : Type 0 where
       → (buffer : List ℕ)
       → rowsDistance b ≤ length buffer
       → (written : Written)
-      → p .write (record { table = got .table; buffer = buffer }) written
+      → p .write (record { table = got .table .sections; buffer = buffer }) written
       → written ≡ record { answer = done (rowsDistance b); buffer = over (drop (length b - rowsDistance b) b) buffer })
   -- accepted exactly when every flow has a response bound within its deadline; the bounds reported are the smallest, zeros elsewhere
-  pub decides : Decides measure (p .check)
+  pub decides : DecidesBooks measure (p .check)
+  -- and so it is with a table whose figures are right: the check of it is that of its book
+  pub decides-tables : DecidesTables measure (p .checkTable)
+  pub checks-books :
+      Always (p .checkTable)
+      (λ t checked.
+      InMemory (t .sections)
+      → WellFormed (t .sections)
+      → RightFigures t
+      → (other : Checked)
+      → p .check (bookOf (t .sections)) other
+      → checked ≡ other)
   -- a flow enters exactly when every flow of the new table has one,
   pub admits :
       Always (p .add)
@@ -168,8 +201,12 @@ pub record Demand2 (p : Program) : Type 0 where
       Done (formAnswer a)
       → Done (changed .answer) ↔ AllBounded (factsOf (withFlow a)) (measure (factsOf (withFlow a))))
   -- and enters at its place, or is taken out, and nothing else changes; unused places are zero
-  pub adds : Always (p .add) (λ a changed. Done (addAnswer a) → changed .table ≡ tableOf (withFlow a))
-  pub removes : Always (p .remove) (λ r changed. Done (removeAnswer r) → changed .table ≡ tableOf (withoutFlow r))
+  pub adds : Always (p .add) (λ a changed. Done (addAnswer a) → changed .table ≡ keptOf (withFlow a))
+  pub removes : Always (p .remove) (λ r changed. Done (removeAnswer r) → changed .table ≡ keptOf (withoutFlow r))
+  -- reading fills in the figures, and adding and removing keep each equal to its definition, and every other zero
+  pub read-figures : Always (p .read) (λ b got. Done (got .answer) → Figured (got .table))
+  pub add-figures : Always (p .add) (λ a changed. Done (changed .answer) → Figured (changed .table))
+  pub remove-figures : Always (p .remove) (λ r changed. InMemory (r .table .sections) → Done (changed .answer) → Figured (changed .table))
   pub starts : Always (p .start) (λ s started. Done (startAnswer s) → started .area ≡ over (startArea (said (s .book))) (s .area))
   -- the count and the written bytes are those of the greedy choice
   pub grants :

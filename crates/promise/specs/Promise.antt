@@ -6,6 +6,7 @@ use Rattle.promise.specs.Demands.{Program, planner, Always}
 pub record Meets (p : Program) : Type 0 where
   pub reads : Always (p .read) (planner .read)
   pub checks : Always (p .check) (planner .check)
+  pub checks-tables : Always (p .checkTable) (planner .checkTable)
   pub writes : Always (p .write) (planner .write)
   pub adds : Always (p .add) (planner .add)
   pub removes : Always (p .remove) (planner .remove)

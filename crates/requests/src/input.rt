@@ -71,7 +71,12 @@ pub(crate) fn next_table() -> Handed {
     let mut rows = [0u8; Node::MOST * Node::ROW_BYTES];
     let mut records = [0u8; Flow::MOST * Flow::RECORD_BYTES];
     let mut steps = [0u8; Flow::MOST * Plan::MOST * Plan::STEP_BYTES];
-    let came = fills(&mut counts) & fills(&mut rows) & fills(&mut records) & fills(&mut steps);
+    let mut figures = [0u8; Flow::MOST * Flow::MOST];
+    let came = fills(&mut counts)
+        & fills(&mut rows)
+        & fills(&mut records)
+        & fills(&mut steps)
+        & fills(&mut figures);
     Handed {
         came,
         table: Table {
@@ -80,6 +85,7 @@ pub(crate) fn next_table() -> Handed {
             rows,
             records,
             steps,
+            figures,
         },
     }
 }

@@ -1,25 +1,27 @@
-// Answers requests to read, write, add, remove and check, so that a program in another language can try the five calls on anything, and
-// see the bounds, which the calls for C do not hand out.
+// Answers requests to read, write, add, remove and check, a book or a table, so that a program in another language can try the six calls on
+// anything, and see the bounds, which the calls for C do not hand out.
 //
 // Requests stand one behind the other on standard input, and their answers on standard output; numbers are big-endian. A request
 // is a byte for the call, and what the call is handed:
 //
-//   1  read     a slice
-//   2  write    a table, then a buffer
-//   3  add      a table, a place in eight bytes, the newcomer's record, and all step places of a plan
-//   4  remove   a table, then a place in eight bytes
-//   5  check    a slice
+//   1  read            a slice
+//   2  write           a table, then a buffer
+//   3  add             a table, a place in eight bytes, the newcomer's record, and all step places of a plan
+//   4  remove          a table, then a place in eight bytes
+//   5  check           a slice
+//   6  check a table   a table
 //
-// A slice or a buffer is its length in two bytes, then its bytes. A table is n, m and all bytes of its rows, its records and its
-// steps, those of unused places too. An answer is the code in two bytes, the number in eight, then the table that the call returns;
-// of write, the whole buffer; of check, the bounds of all flow places in two bytes each. The program ends at any other call, at a
-// request that is cut short, which gets no answer, or after the most requests of a run.
+// A slice or a buffer is its length in two bytes, then its bytes. A table is n, m and all bytes of its rows, its records, its steps and
+// its figures, those of unused places too. An answer is the code in two bytes, the number in eight, then the table that the call returns;
+// of write, the whole buffer; of check, of a slice or a table, the bounds of all flow places in two bytes each. The program ends at any
+// other call, at a request that is cut short, which gets no answer, or after the most requests of a run.
 mod input;
 mod output;
 
 use bounds::acceptance::check;
 use changes::change::add;
 use changes::change::remove;
+use table::checked::check_table;
 use table::table::read;
 use table::written::write;
 
@@ -83,10 +85,16 @@ fn answer_check(room: &mut [u8]) -> bool {
         return false;
     }
     let len = slice.len;
-    let checked = check(&room[..len]);
-    let bounds = checked.bounds;
-    output::put_answer(checked.answer);
-    output::put_bounds(&bounds);
+    output::put_checked(check(&room[..len]));
+    true
+}
+
+fn answer_check_table() -> bool {
+    let handed = input::next_table();
+    if !handed.came {
+        return false;
+    }
+    output::put_checked(check_table(handed.table));
     true
 }
 
@@ -98,6 +106,7 @@ fn answer_next(room: &mut [u8]) -> bool {
         3 => answer_add(),
         4 => answer_remove(),
         5 => answer_check(room),
+        6 => answer_check_table(),
         _ => false,
     }
 }

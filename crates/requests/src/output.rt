@@ -1,4 +1,5 @@
 // What a call answers, put on standard output.
+use bounds::bounds::Checked;
 use libc::STDOUT_FILENO;
 use numbers::numbers::WORDS;
 use numbers::numbers::put_long;
@@ -37,13 +38,20 @@ pub(crate) fn put_table(t: Table) {
     put(&t.rows);
     put(&t.records);
     put(&t.steps);
+    put(&t.figures);
 }
 
 // All bounds, those of unused places too.
-pub(crate) fn put_bounds(bounds: &[u16; Flow::MOST]) {
+fn put_bounds(bounds: &[u16; Flow::MOST]) {
     let mut i = 0;
     while i < Flow::MOST {
         put_two(bounds[i]);
         i += 1;
     }
+}
+
+pub(crate) fn put_checked(checked: Checked) {
+    let bounds = checked.bounds;
+    put_answer(checked.answer);
+    put_bounds(&bounds);
 }

@@ -1,22 +1,29 @@
 -- The calls that ship are no empty relations: for whatever a call is handed, something is given that meets its contract. Assumes nothing.
 use Prim.Native.Nat.{ℕ}
 use mathlib.Core.Path.{refl}
-use mathlib.Core.List.{List}
+use mathlib.Core.List.{List, []}
 use base.Fml.{Lft}
 use denote.Ref.{RefT}
 use Rattle.trade.specs.Layout.{Sections}
+use Rattle.trade.specs.Kept.{Tabled}
 use Rattle.trade.specs.Answers.{packedOf}
-use Rattle.trade.specs.Calls.{Checked, Started, Advanced, Writing, Adding, Removing, Starting, Advancing, readOf, checkOf, writeOf, addOf, removeOf, startOf, advanceOf}
+use Rattle.trade.specs.Calls.{Checked, Started, Advanced, Writing, Adding, Removing, Starting, Advancing, readOf, checkOf, checkKeptOf, writeOf, addOf, removeOf, startOf, advanceOf}
 use Rattle.table.specs.declared.table.Table.{Table}
 use Rattle.promise.specs.Demands.{Answers}
-use Rattle.shipped.specs.Calls.{Read, Check, Write, Add, Remove, Start, Advance, SlotCheck, shipped, forC, withRun}
+use Rattle.shipped.specs.Calls.{Read, Check, CheckTable, Write, Add, Remove, Start, Advance, SlotCheck, shipped, forC, withRun}
 
 -- a list that is lent, and a table of counts and sections
 lent : List ℕ → RefT (List ℕ)
 lent b = record { ptr = (0, 0); name = 0; now = b }
 
-held : Sections → Table
-held s = record { nodes = s .nodes; flows = s .flows; rows = s .rows; records = s .records; steps = s .steps }
+held : Tabled → Table
+held t =
+    let s : Sections = t .sections in
+    record { nodes = s .nodes; flows = s .flows; rows = s .rows; records = s .records; steps = s .steps; figures = t .figures }
+
+-- a table with figures, for a call that does not look at them
+figured : Sections → Tabled
+figured s = record { sections = s; figures = [] }
 
 module _ (κ : Lft) where
   read-given : (b : List ℕ) → Read b (readOf b)
@@ -29,10 +36,15 @@ module _ (κ : Lft) where
   check-given b =
       ((κ, tt), (lent b, tt), record { answer = checkOf b .answer; bounds = checkOf b .bounds }, (lent b, tt), record { answer = refl; bounds = refl }, refl, refl)
 
+  check-table-given : (t : Tabled) → CheckTable t (checkKeptOf t)
+  unfolding held
+  check-table-given t =
+      (tt, (held t, tt), record { answer = checkKeptOf t .answer; bounds = checkKeptOf t .bounds }, (held t, tt), record { answer = refl; bounds = refl }, refl, refl)
+
   write-given : (w : Writing) → Write w (writeOf w)
-  unfolding lent held
+  unfolding lent held figured
   write-given w =
-      ((κ, tt), (held (w .table), (lent (w .buffer), tt)), writeOf w .answer, (held (w .table), (lent (writeOf w .buffer), tt)), record { answer = refl; buffer = refl }, refl, refl)
+      ((κ, tt), (held (figured (w .table)), (lent (w .buffer), tt)), writeOf w .answer, (held (figured (w .table)), (lent (writeOf w .buffer), tt)), record { answer = refl; buffer = refl }, refl, refl)
 
   add-given : (a : Adding) → Add a (addOf a)
   unfolding held
@@ -69,6 +81,7 @@ module _ (κ : Lft) where
       record {
         read = λ b. (readOf b, read-given b);
         check = checks;
+        checkTable = λ t. (checkKeptOf t, check-table-given t);
         write = λ w. (writeOf w, write-given w);
         add = λ a. (addOf a, add-given a);
         remove = λ r. (removeOf r, remove-given r);

@@ -7,19 +7,22 @@ use Rattle.trade.specs.Limits.{packing}
 use Rattle.trade.specs.Answers.{packedOf}
 use Rattle.trade.specs.Bound.{measure}
 use Rattle.trade.specs.Slot.{greedy, releasesOf}
-use Rattle.trade.specs.Calls.{Checked, Starting, Started, Advancing, Advanced, readOf, checkOf, checkBy, writeOf, addOf, removeOf, startOf, startBy, advanceOf, advanceBy}
+use Rattle.trade.specs.Calls.{Checked, Starting, Started, Advancing, Advanced, readOf, checkOf, checkBy, checkKeptOf, writeOf, addOf, removeOf, startOf, startBy, advanceOf, advanceBy}
 use Rattle.trade.specs.declared.answer.Answer.{Answer}
 use Rattle.trade.proofs.Numbers.{check-number, start-number, advance-number}
 use Rattle.promise.specs.Demands.{Always, planner}
 use Rattle.promise.specs.Promise.{Meets}
-use Rattle.shipped.specs.Calls.{Read, Check, Write, Add, Remove, Start, Advance, shipped, unpacked, SlotStart, SlotAdvance, forC, withRun, CheckedInC}
+use Rattle.shipped.specs.Calls.{Read, Check, CheckTable, Write, Add, Remove, Start, Advance, shipped, unpacked, SlotStart, SlotAdvance, forC, withRun, CheckedInC}
 
--- THE SEVEN CALLS
+-- THE EIGHT CALLS
 pub read-planned : Always Read (planner .read)
 read-planned b given (κs, a, r, s, p, i, o) = o ∙ (λ t. record { answer = p .answer t; table = p .table t }) ∙ ap readOf (sym i)
 
 pub check-planned : Always Check (planner .check)
 check-planned b given (κs, a, r, s, p, i, o) = o ∙ (λ t. record { answer = p .answer t; bounds = p .bounds t }) ∙ ap checkOf (sym i)
+
+pub check-table-planned : Always CheckTable (planner .checkTable)
+check-table-planned t given (κs, a, r, s, p, i, o) = o ∙ (λ t. record { answer = p .answer t; bounds = p .bounds t }) ∙ ap checkKeptOf (sym i)
 
 pub write-planned : Always Write (planner .write)
 write-planned w given (κs, a, r, s, p, i, o) = o ∙ (λ t. record { answer = p .answer t; buffer = p .buffer t }) ∙ ap writeOf (sym i)
@@ -48,6 +51,7 @@ meets-with checks starts advances =
     record {
       reads = read-planned;
       checks = checks;
+      checks-tables = check-table-planned;
       writes = write-planned;
       adds = add-planned;
       removes = remove-planned;

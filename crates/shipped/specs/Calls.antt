@@ -8,10 +8,12 @@ use denote.Ref.{now}
 use Rattle.trade.specs.Limits.{packing}
 use Rattle.trade.specs.Calls.{Got, Checked, Writing, Written, Adding, Removing, Changed, Starting, Started, Advancing, Advanced, checkOf}
 use Rattle.trade.specs.declared.answer.Answer.{Answer}
-use Rattle.table.specs.Table.{sectionsIn}
+use Rattle.trade.specs.Kept.{Tabled}
+use Rattle.table.specs.Table.{sectionsIn, keptIn}
 use Rattle.promise.specs.Demands.{Program}
 use Rattle.table.proofs.table.read.Reads as read
 use Rattle.bounds.proofs.acceptance.check.Reads as check
+use Rattle.table.proofs.checked.check_table.Reads as check-table
 use Rattle.table.proofs.written.write.Reads as write
 use Rattle.changes.proofs.change.add.Reads as add
 use Rattle.changes.proofs.change.remove.Reads as remove
@@ -21,19 +23,26 @@ use Rattle.radio.proofs.slot_check.Reads as slot-check
 use Rattle.radio.proofs.slot_start.Reads as slot-start
 use Rattle.radio.proofs.slot_advance.Reads as slot-advance
 
--- THE SEVEN CALLS
+-- THE EIGHT CALLS
 abbrev pub Read : List ℕ → Got → Type 0
 Read b given =
     (κs : _) × (a : _) × (r : _) × (s : _)
     × read.Post κs a r s
     × (b ≡ now (a .0))
-    × (given ≡ record { answer = r .answer; table = sectionsIn (r .table) })
+    × (given ≡ record { answer = r .answer; table = keptIn (r .table) })
 
 abbrev pub Check : List ℕ → Checked → Type 0
 Check b given =
     (κs : _) × (a : _) × (r : _) × (s : _)
     × check.Post κs a r s
     × (b ≡ now (a .0))
+    × (given ≡ record { answer = r .answer; bounds = r .bounds })
+
+abbrev pub CheckTable : Tabled → Checked → Type 0
+CheckTable t given =
+    (κs : _) × (a : _) × (r : _) × (s : _)
+    × check-table.Post κs a r s
+    × (t ≡ keptIn (a .0))
     × (given ≡ record { answer = r .answer; bounds = r .bounds })
 
 abbrev pub Write : Writing → Written → Type 0
@@ -47,15 +56,15 @@ abbrev pub Add : Adding → Changed → Type 0
 Add i given =
     (κs : _) × (a : _) × (r : _) × (s : _)
     × add.Post κs a r s
-    × (i ≡ record { table = sectionsIn (a .0); place = a .1 .0; flow = a .1 .1 .0; plan = a .1 .1 .1 .0 })
-    × (given ≡ record { answer = r .answer; table = sectionsIn (r .table) })
+    × (i ≡ record { table = keptIn (a .0); place = a .1 .0; flow = a .1 .1 .0; plan = a .1 .1 .1 .0 })
+    × (given ≡ record { answer = r .answer; table = keptIn (r .table) })
 
 abbrev pub Remove : Removing → Changed → Type 0
 Remove i given =
     (κs : _) × (a : _) × (r : _) × (s : _)
     × remove.Post κs a r s
-    × (i ≡ record { table = sectionsIn (a .0); place = a .1 .0 })
-    × (given ≡ record { answer = r .answer; table = sectionsIn (r .table) })
+    × (i ≡ record { table = keptIn (a .0); place = a .1 .0 })
+    × (given ≡ record { answer = r .answer; table = keptIn (r .table) })
 
 abbrev pub Start : Starting → Started → Type 0
 Start i given =
@@ -73,7 +82,7 @@ Advance i given =
 
 -- the calls on tables, with a check, a start and an advance
 abbrev pub withRun : (List ℕ → Checked → Type 0) → (Starting → Started → Type 0) → (Advancing → Advanced → Type 0) → Program
-withRun check start advance = record { read = Read; check = check; write = Write; add = Add; remove = Remove; start = start; advance = advance }
+withRun check start advance = record { read = Read; check = check; checkTable = CheckTable; write = Write; add = Add; remove = Remove; start = start; advance = advance }
 
 -- THE PROGRAM that ships
 abbrev pub shipped : Program

@@ -1,18 +1,21 @@
-// The table in memory: the same counts and sections as a book, in the same layout, with room for the largest; and reading.
+// The table in memory: the same counts and sections as a book, in the same layout, with room for the largest, and the interference of its
+// flows, I(l,h) at 32 l + h; and reading.
 ghost use mathlib.Core.Path.{_≡_};
 ghost use Prim.Native.Nat.{_≤_};
 ghost use lib.ListN.{length};
-ghost use Rattle.trade.specs.Bytes.{padded};
 ghost use Rattle.trade.specs.Layout.{sections};
 ghost use Rattle.trade.specs.Answers.{firstOf, noNumber};
-ghost use Rattle.trade.specs.Table.{emptyTable, InMemory, rowsRoom, recordsRoom, stepsRoom};
+ghost use Rattle.trade.specs.Table.{InMemory, rowsRoom, recordsRoom, stepsRoom};
+ghost use Rattle.trade.specs.Kept.{emptyKept};
 ghost use Rattle.trade.specs.Calls.{tableRules};
-ghost use Rattle.table.specs.Table.{sectionsIn, Reads};
+ghost use Rattle.sections.specs.Formed.{Formed};
+ghost use Rattle.table.specs.Table.{keptIn, tableWith, Reads};
 use book::parts::is_miscounted;
 use book::parts::open_book;
 use book::parts::records_of;
 use book::parts::rows_of;
 use book::parts::steps_of;
+use figures::kept::keep;
 use sections::records::records_answer;
 use sections::rows::rows_answer;
 use sections::steps::steps_answer;
@@ -27,6 +30,7 @@ pub struct Table {
     pub rows: [u8; Node::MOST * Node::ROW_BYTES],
     pub records: [u8; Flow::MOST * Flow::RECORD_BYTES],
     pub steps: [u8; Flow::MOST * Plan::MOST * Plan::STEP_BYTES],
+    pub figures: [u8; Flow::MOST * Flow::MOST],
 }
 
 // What reading a book answers, and the table that it holds.
@@ -38,7 +42,7 @@ pub struct Got {
 impl Table {
     // A table of no nodes and no flows: zeros.
     pub fn empty() -> Self
-        ensures { λ r. ⌜ sectionsIn r ≡ emptyTable ⌝ }
+        ensures { λ r. ⌜ keptIn r ≡ emptyKept ⌝ }
     {
         Table {
             nodes: 0,
@@ -46,11 +50,12 @@ impl Table {
             rows: [0; Node::MOST * Node::ROW_BYTES],
             records: [0; Flow::MOST * Flow::RECORD_BYTES],
             steps: [0; Flow::MOST * Plan::MOST * Plan::STEP_BYTES],
+            figures: [0; Flow::MOST * Flow::MOST],
         }
     }
 }
 
-// The table of these sections, zeros behind each.
+// The table of these sections, zeros behind each, and the figures of their flows.
 pub fn table_of<'a>(
     nodes: u8,
     flows: u8,
@@ -59,21 +64,24 @@ pub fn table_of<'a>(
     steps: &'a [u8],
 ) -> Table
     requires { ⌜ (length (now rows) ≤ rowsRoom) × (length (now records) ≤ recordsRoom) × (length (now steps) ≤ stepsRoom) ⌝ }
-    ensures { λ r. ⌜ sectionsIn r
-        ≡ sections nodes flows (padded rowsRoom (now (rows .entry))) (padded recordsRoom (now (records .entry))) (padded stepsRoom (now (steps .entry))) ⌝ }
+    requires { ⌜ Formed flows (now rows) (now records) (now steps) ⌝ }
+    ensures { λ r. ⌜ keptIn r ≡ tableWith nodes flows (now (rows .entry)) (now (records .entry)) (now (steps .entry)) ⌝ }
 {
     let mut r = [0u8; Node::MOST * Node::ROW_BYTES];
     let mut c = [0u8; Flow::MOST * Flow::RECORD_BYTES];
     let mut s = [0u8; Flow::MOST * Plan::MOST * Plan::STEP_BYTES];
+    let mut i = [0u8; Flow::MOST * Flow::MOST];
     bytes::copy(rows, &mut r);
     bytes::copy(records, &mut c);
     bytes::copy(steps, &mut s);
+    keep(flows as usize, rows, records, steps, &mut i);
     Table {
         nodes,
         flows,
         rows: r,
         records: c,
         steps: s,
+        figures: i,
     }
 }
 
@@ -102,7 +110,7 @@ pub fn table_answer<'a>(
     steps_answer(nodes, flows, records, steps)
 }
 
-// READ: codes 1 to 8; the table with its unused places zero, or a table of zeros with the refusal.
+// READ: codes 1 to 8; the table with its unused places zero and its figures right, or a table of zeros with the refusal.
 pub fn read(book: &[u8]) -> Got
     ensures { λ r. ⌜ Reads (now (book .entry)) r ⌝ }
 {

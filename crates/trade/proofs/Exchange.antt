@@ -27,7 +27,7 @@ module _ (from to : ℕ) (new old : List ℕ) (h : from ≤ length old) where
   length-spliced =
       length-append (take from old ++ new) (drop to old) ∙ ap₂ (λ (a b : ℕ). a + b) length-front (length-drop to old)
 
-  before-cut : (i : ℕ) → i < from → byte (spliced from to new old) i ≡ byte old i
+  pub before-cut : (i : ℕ) → i < from → byte (spliced from to new old) i ≡ byte old i
   unfolding spliced
   before-cut i l =
       List·getD-append (take from old ++ new) (drop to old) 0 i (omega (arith, length-front))
@@ -40,7 +40,7 @@ module _ (from to : ℕ) (new old : List ℕ) (h : from ≤ length old) where
       List·getD-append (take from old ++ new) (drop to old) 0 (from + i) (omega (arith, length-front))
       ∙ byte-behind (take from old) new from i (length-take-le from old h)
 
-  behind-cut : (i : ℕ) → byte (spliced from to new old) (from + length new + i) ≡ byte old (to + i)
+  pub behind-cut : (i : ℕ) → byte (spliced from to new old) (from + length new + i) ≡ byte old (to + i)
   unfolding spliced
   behind-cut i = byte-behind (take from old ++ new) (drop to old) (from + length new) i length-front ∙ getD-drop to old i 0
 

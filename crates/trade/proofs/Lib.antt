@@ -15,9 +15,11 @@ pub mod Area
 pub mod Places
 pub mod Used
 pub mod Exchange
+pub mod Moved
 pub mod Whole
 pub mod Calls
 pub mod Front
+pub mod Kept
 pub mod RoundTrip
 pub mod Unique
 pub mod Numbers

@@ -6,7 +6,7 @@ use mathlib.Core.List.{[], _∷_}
 use native.Mathlib.Omega.{arith}
 use Rattle.trade.specs.Bytes.{Bytes}
 use Rattle.trade.specs.Facts.{flowIn}
-use Rattle.trade.specs.Pins.{noMark, noNodes, badDistance, ownBit, noId, longerPlan, jump, tooTight, distances, stepTwo, trailerOfThree, counted, recorded, starts, advances, areaWith, ofOne, formedOfOne, alike, bookOf4, fullTable, meets, blocked, disturbed, releasesAt, due, adds, removes, writes, withSteps, Pins}
+use Rattle.trade.specs.Pins.{noMark, noNodes, badDistance, ownBit, noId, longerPlan, jump, tooTight, distances, stepTwo, trailerOfThree, counted, recorded, starts, advances, areaWith, ofOne, formedOfOne, alike, bookOf4, fullTable, oneFigure, keptA, fullKept, checksKept, meets, blocked, disturbed, releasesAt, due, adds, removes, writes, withSteps, Pins}
 use Rattle.trade.proofs.Cases.{computed}
 
 most-byte : Bytes (0xff ∷ [])
@@ -14,7 +14,7 @@ most-byte zero = omega arith
 most-byte (suc i) = omega arith
 
 pub pins-hold : Pins
-unfolding computed flowIn noMark noNodes badDistance ownBit noId longerPlan jump tooTight distances stepTwo trailerOfThree counted recorded starts advances areaWith ofOne formedOfOne alike bookOf4 fullTable meets blocked disturbed releasesAt due adds removes writes withSteps
+unfolding computed flowIn oneFigure keptA fullKept checksKept noMark noNodes badDistance ownBit noId longerPlan jump tooTight distances stepTwo trailerOfThree counted recorded starts advances areaWith ofOne formedOfOne alike bookOf4 fullTable meets blocked disturbed releasesAt due adds removes writes withSteps
 pins-hold =
     record {
       byte-255 = most-byte;
@@ -75,6 +75,17 @@ pins-hold =
       order-8-adding = refl;
       order-9-adding = refl;
       order-6-15 = refl;
+      wrong-figure = refl;
+      wrong-line = refl;
+      not-asked-for = refl;
+      order-8-17 = refl;
+      order-17-14 = refl;
+      order-17-15 = refl;
+      kept-right = refl;
+      kept-larger = refl;
+      kept-smaller = refl;
+      kept-refused = refl;
+      kept-order = refl;
       read-done = refl;
       read-refused = refl;
       write-done = refl;
@@ -88,6 +99,9 @@ pins-hold =
       added = refl;
       removed-first = refl;
       removed-last = refl;
+      added-figures = refl;
+      figures-again = refl;
+      removed-figures = refl;
       shared-node = refl;
       either-grant = refl;
       each-way = refl;

@@ -45,7 +45,7 @@ module _ (s t : Sections) (same : SameUsed s t) where
   unfolding factsOf
   same-nodes = same .nodes
 
-  same-flows : f .flows ≡ g .flows
+  pub same-flows : f .flows ≡ g .flows
   unfolding factsOf
   same-flows = same .flows
 

@@ -2,28 +2,31 @@
 -- written as its book's bytes. Leans on Whole. Assumes nothing.
 use Prim.Native.Nat.{ℕ, suc, _+_, _-_, _*_, _/_, _%_, _^_, _<_}
 use mathlib.Core.Path.{_≡_, refl, sym, _∙_, ap, ap₂}
-use mathlib.Core.Bool.{not}
+use mathlib.Core.Bool.{not, cond}
 use mathlib.Core.List.{List, [], _∷_, _++_, append-assoc}
 use native.Mathlib.Numerals.{add-one}
 use native.Mathlib.Omega.{arith}
 use lib.Dec.{eqb}
-use lib.ListN.{length, take, drop, length-append, length-drop, drop-of-length-le}
+use lib.ListN.{length, take, drop, replicate, length-append, length-drop, drop-of-length-le}
 use lib.Seq.{take-at, drop-at, drop-cons, getD-drop}
 use borrow.Author.Tests.{eqb-true, eq-eqb, ne-eqb, le-ltb, not-false}
-use Rattle.trade.specs.Limits.{mark, rowBytes, recordBytes, stepBytes, trailerBytes}
+use Rattle.trade.specs.Limits.{mostFlows, mark, rowBytes, recordBytes, stepBytes, trailerBytes}
 use Rattle.trade.specs.Bytes.{Bytes, byte, word, twoBytes, part}
 use Rattle.trade.specs.Layout.{Sections, trailer, rowsDistance, recordsDistance, stepsDistance, nodeCount, flowCount, sectionsOf}
 use Rattle.trade.specs.Facts.{Facts, factsOf, said, allSteps}
 use Rattle.trade.specs.Table.{stepsDistanceOf, recordsDistanceOf, rowsDistanceOf, trailerOf, used, bookOf, tableOf}
-use Rattle.trade.specs.Answers.{done, given, isDone, noNumber}
+use Rattle.trade.specs.Kept.{Tabled, keptOf, RightFigures, keptMeasure}
+use Rattle.trade.specs.Answers.{done, given, isDone, givenFirst, firstOf, on, noNumber}
 use Rattle.trade.specs.Codes.{code1, code2, code3, code4, code5, code6, code7, code8}
-use Rattle.trade.specs.Bound.{code9}
-use Rattle.trade.specs.Calls.{bookRules, tableRules, readAnswer, readOf, checkRulesBy, checkRules, checkAnswerBy, boundsOf, checkBy, checkOf}
+use Rattle.trade.specs.Bound.{Measure, measure, code9, code9By}
+use Rattle.trade.specs.Calls.{Checked, bookRules, tableRules, readAnswer, readOf, checkRulesBy, checkRules, checkAnswerBy, boundsBy, boundsOf, checkBy, checkOf, keptRules, checkKeptOf}
 use Rattle.trade.specs.declared.answer.Answer.{Answer}
 use Rattle.trade.proofs.First.{and-true}
-use Rattle.trade.proofs.Answers.{Passed, passed-none, passed-more, passed-head, passed-tail, passed-append, passed-done, given-passed, given-false}
+use Rattle.trade.proofs.Answers.{Passed, passed-none, passed-more, passed-head, passed-tail, passed-append, passed-on, passed-done, append-passed, firstOf-last, given-passes, given-passed, given-false}
 use Rattle.trade.proofs.Valid.{table-valid}
 use Rattle.trade.proofs.Places.{same-allSteps, alike-passed, alike-code9, alike-bounds}
+use Rattle.trade.proofs.Alike.{alike-self, code9-alike, bounds-alike}
+use Rattle.trade.proofs.Kept.{right-measure, alike-figures}
 use Rattle.trade.proofs.Used.{same-sections, used-same, table-same, table-used, Holds, length-used-rows, length-used-records, length-used-steps, length-trailer, length-book, book-table, roomy}
 use Rattle.trade.proofs.Whole.{passed-framed, passed-steps, book-holds, used-whole, book-parts}
 
@@ -170,10 +173,11 @@ module _ (t : Sections) (h : Holds t) (p : Passed t tableRules) where
       (passed-more (book-rule code6 (passed-head p6))
       (passed-more book-code7 (passed-more (book-rule code8 (passed-head (passed-tail p6))) passed-none)))))))
 
--- WRITE, THEN READ
-pub write-then-read : (t : Sections) → Holds t → Passed t tableRules → readOf (bookOf t) ≡ record { answer = done 0; table = tableOf t }
-unfolding readOf readAnswer isDone
-write-then-read t h p = rw (passed-done noNumber (book-passes t h p), book-sections t h p, table-used t)
+-- WRITE, THEN READ: the table with its unused places zero and its figures right, whatever figures it had
+pub write-then-read : (t : Sections) → Holds t → Passed t tableRules → readOf (bookOf t) ≡ record { answer = done 0; table = keptOf t }
+unfolding readOf readAnswer isDone keptOf
+write-then-read t h p =
+    rw (passed-done noNumber (book-passes t h p), book-sections t h p, table-used t, ← alike-figures t (used t) (used-same t) p)
 
 -- WRITE, THEN CHECK: a table that passes code 9 is accepted as a book, with its own bounds
 pub write-then-check :
@@ -189,6 +193,47 @@ write-then-check t h p e = rw (passed-done noNumber passes, book-said t h p, ←
     passes =
         passed-append (book-passes t h p)
         (passed-more (book-rule t h p code9 (rw (← alike-code9 t (used t) (used-same t) p) e)) passed-none)
+
+-- what a check comes to where the form passes: code 9 by a measure, and the bounds where it is not given
+abbrev pub nineBy : Facts → Measure → Checked
+nineBy f μ = record { answer = code9By f μ; bounds = cond (isDone (code9By f μ)) (boundsBy f μ) (replicate mostFlows 0) }
+
+book-nine : (b : List ℕ) → Passed b bookRules → checkOf b ≡ nineBy (said b) (measure (said b))
+unfolding checkBy checkAnswerBy checkRulesBy code9By givenFirst
+book-nine b p = rw (nine)
+  where
+    nine : firstOf checkRules noNumber b ≡ code9 (said b)
+    nine =
+        append-passed bookRules _ noNumber b (ap (λ (a : Answer). a .code) (passed-done noNumber p))
+        ∙ firstOf-last (λ c. code9 (said c)) b (given-passes 8 _ _)
+
+pub kept-nine : (t : Tabled) → Passed (t .sections) tableRules → checkKeptOf t ≡ nineBy (factsOf (t .sections)) (keptMeasure t)
+unfolding checkKeptOf keptRules code9By givenFirst
+kept-nine t p = rw (nine)
+  where
+    nine : firstOf keptRules noNumber t ≡ code9By (factsOf (t .sections)) (keptMeasure t)
+    nine =
+        append-passed (on (λ (u : Tabled). u .sections) tableRules) _ noNumber t
+        (ap (λ (a : Answer). a .code) (passed-done noNumber (passed-on (λ (u : Tabled). u .sections) p)))
+        ∙ firstOf-last (λ (u : Tabled). code9By (factsOf (u .sections)) (keptMeasure u)) t (given-passes 8 _ _)
+
+-- right figures count as interference does
+pub kept-right : (t : Tabled) → Passed (t .sections) tableRules → RightFigures t → checkKeptOf t ≡ nineBy (factsOf (t .sections)) (measure (factsOf (t .sections)))
+kept-right t p right =
+    let f : Facts = factsOf (t .sections) in
+    let same = right-measure t right in
+    kept-nine t p
+    ∙ rw (code9-alike f f refl (alike-self (f .flows) f) (keptMeasure t) (measure f) same, bounds-alike f f refl (alike-self (f .flows) f) (keptMeasure t) (measure f) same)
+
+-- CHECK A TABLE: where its figures are right, what check says of its book, bounds included
+pub kept-then-check : (t : Tabled) → Holds (t .sections) → Passed (t .sections) tableRules → RightFigures t → checkKeptOf t ≡ checkOf (bookOf (t .sections))
+kept-then-check t h p right =
+    let f : Facts = factsOf (t .sections) in
+    let by-use : nineBy f (measure f) ≡ nineBy (factsOf (used (t .sections))) (measure (factsOf (used (t .sections))))
+    = rw (alike-code9 (t .sections) (used (t .sections)) (used-same (t .sections)) p, alike-bounds (t .sections) (used (t .sections)) (used-same (t .sections)) p) in
+    let by-book : checkOf (bookOf (t .sections)) ≡ nineBy (factsOf (used (t .sections))) (measure (factsOf (used (t .sections))))
+    = book-nine (bookOf (t .sections)) (book-passes (t .sections) h p) ∙ rw (book-said (t .sections) h p) in
+    kept-right t p right ∙ by-use ∙ sym by-book
 
 -- two bytes read as a number are written as those bytes
 twoBytes-word : (l : List ℕ) (at : ℕ) → Bytes l → twoBytes (word l at) ≡ byte l at ∷ byte l (at + 1) ∷ []

@@ -1,4 +1,4 @@
--- The seven calls: for all that a call is handed, its answer, what it returns beside it, and what it leaves in lent memory, done or
+-- The eight calls: for all that a call is handed, its answer, what it returns beside it, and what it leaves in lent memory, done or
 -- refused. Leans on Codes and all below it.
 use Prim.Native.Nat.{ℕ, suc, _*_}
 use mathlib.Core.Bool.{cond}
@@ -9,10 +9,11 @@ use Rattle.trade.specs.First.{listTo}
 use Rattle.trade.specs.Bytes.{twoBytes, over, padded}
 use Rattle.trade.specs.Layout.{Sections, sectionsOf}
 use Rattle.trade.specs.Facts.{Facts, factsOf, said}
-use Rattle.trade.specs.Table.{used, bookOf, tableOf, emptyTable}
+use Rattle.trade.specs.Table.{used, bookOf}
 use Rattle.trade.specs.Exchange.{Exchange, recut}
 use Rattle.trade.specs.Answers.{isDone, firstOf, on, noNumber}
 use Rattle.trade.specs.Bound.{Measure, measure, boundBy, code9By, code9}
+use Rattle.trade.specs.Kept.{Tabled, keptOf, emptyKept, code17, keptMeasure}
 use Rattle.trade.specs.Slot.{State, atStart, Releases, releasesOf, Waits, greedy, grantedBy, nextStateBy, grantOf, grantsOf}
 use Rattle.trade.specs.Area.{stateIn, areaOf}
 use Rattle.trade.specs.Codes.{code1, code2, code3, code4, code5, code6, code7, code8, code13, code14, code15Adding, code15Removing}
@@ -36,10 +37,10 @@ bookRules =
 unfoldable pub tableRules : List (Sections → Answer)
 tableRules = (λ t. code3 (factsOf t)) ∷ (λ t. code5 (factsOf t)) ∷ (λ t. code6 (factsOf t)) ∷ (λ t. code8 (factsOf t)) ∷ []
 
--- READ: 1 to 8. The table with its unused places zero; refused, a table of zeros
+-- READ: 1 to 8. The table with its unused places zero and its figures right; refused, a table of zeros
 pub record Got : Type 0 where
   pub answer : Answer
-  pub table : Sections
+  pub table : Tabled
 
 unfoldable pub readAnswer : List ℕ → Answer
 readAnswer b = firstOf bookRules noNumber b
@@ -48,7 +49,7 @@ unfoldable pub readOf : List ℕ → Got
 readOf b =
     record {
       answer = readAnswer b;
-      table = cond (isDone (readAnswer b)) (tableOf (sectionsOf b)) emptyTable;
+      table = cond (isDone (readAnswer b)) (keptOf (sectionsOf b)) emptyKept;
     }
 
 -- CHECK a book: 1 to 8, 9. The m bounds, zeros elsewhere; refused, all zeros. How the book's facts are measured is a parameter
@@ -85,8 +86,19 @@ boundsOf f = boundsBy f (measure f)
 abbrev pub checkOf : List ℕ → Checked
 checkOf = checkBy measure
 
+-- CHECK a table: 3, 5, 6, 8, then 9 by its figures as they stand. Bounds as above
+unfoldable pub keptRules : List (Tabled → Answer)
+keptRules = on (λ t. t .sections) tableRules ++ ((λ t. code9By (factsOf (t .sections)) (keptMeasure t)) ∷ [])
+
+unfoldable pub checkKeptOf : Tabled → Checked
+checkKeptOf t =
+    record {
+      answer = firstOf keptRules noNumber t;
+      bounds = cond (isDone (firstOf keptRules noNumber t)) (boundsBy (factsOf (t .sections)) (keptMeasure t)) (replicate mostFlows 0);
+    }
+
 -- WRITE: 3, 5, 6, 8 on the table, then 13. The book at the front of the lent buffer, and nothing beyond it touched; refused, nothing
--- touched. The number is the book's length
+-- touched. The number is the book's length. The figures are not looked at: what is written is the table's sections
 pub record Writing : Type 0 where
   pub table : Sections
   pub buffer : List ℕ
@@ -107,17 +119,17 @@ writeOf w =
       buffer = cond (isDone (writeAnswer w)) (over (bookOf (w .table)) (w .buffer)) (w .buffer);
     }
 
--- ADD at a place: 3, 5, 6, 8 on the old table; 14; 15; 6 and 8 on the new one; 9 on the new one. Refused, the table as handed in.
+-- ADD at a place: 3, 5, 6, 8 and 17 on the old table; 14; 15; 6 and 8 on the new one; 9 on the new one. Refused, the table as handed in.
 -- The newcomer is a record, whose L counts, and the bytes of 32 step places, of which those past L are ignored
 pub record Adding : Type 0 where
-  pub table : Sections
+  pub table : Tabled
   pub place : ℕ
   pub flow : Flow
   pub plan : List ℕ
 
 pub record Changed : Type 0 where
   pub answer : Answer
-  pub table : Sections
+  pub table : Tabled
 
 unfoldable pub recordOf : Flow → List ℕ
 recordOf w = twoBytes (w .id) ++ twoBytes (w .phase) ++ twoBytes (w .period) ++ twoBytes (w .deadline) ++ twoBytes (w .len)
@@ -128,29 +140,33 @@ entering place w plan = record { from = place; to = place; come = 1; records = r
 
 -- the old table's used places, with the newcomer put in at the place
 unfoldable pub withFlow : Adding → Sections
-withFlow a = recut (used (a .table)) (entering (a .place) (a .flow) (a .plan))
+withFlow a = recut (used (a .table .sections)) (entering (a .place) (a .flow) (a .plan))
+
+-- the rules on a table that is to be changed: those of a table, and its figures
+unfoldable pub oldRules : List (Tabled → Answer)
+oldRules = on (λ t. t .sections) tableRules ++ (code17 ∷ [])
 
 -- the rules on where a flow comes in, and those on the new table
 unfoldable pub enterRules : List (Adding → Answer)
-enterRules = (λ a. code14 (factsOf (a .table))) ∷ (λ a. code15Adding (factsOf (a .table)) (a .place)) ∷ []
+enterRules = (λ a. code14 (factsOf (a .table .sections))) ∷ (λ a. code15Adding (factsOf (a .table .sections)) (a .place)) ∷ []
 
 unfoldable pub newRules : List (Sections → Answer)
 newRules = (λ t. code6 (factsOf t)) ∷ (λ t. code8 (factsOf t)) ∷ (λ t. code9 (factsOf t)) ∷ []
 
 -- the old table's rules come first, then these two
 unfoldable pub addAnswer : Adding → Answer
-addAnswer = firstOf (on (λ a. a .table) tableRules ++ (enterRules ++ on withFlow newRules)) noNumber
+addAnswer = firstOf (on (λ a. a .table) oldRules ++ (enterRules ++ on withFlow newRules)) noNumber
 
 unfoldable pub addOf : Adding → Changed
 addOf a =
     record {
       answer = addAnswer a;
-      table = cond (isDone (addAnswer a)) (tableOf (withFlow a)) (a .table);
+      table = cond (isDone (addAnswer a)) (keptOf (withFlow a)) (a .table);
     }
 
--- REMOVE: 3, 5, 6, 8; 15. Refused, the table as handed in
+-- REMOVE: 3, 5, 6, 8 and 17; 15. Refused, the table as handed in
 pub record Removing : Type 0 where
-  pub table : Sections
+  pub table : Tabled
   pub place : ℕ
 
 -- the flow at a place goes
@@ -159,20 +175,20 @@ leaving place = record { from = place; to = suc place; come = 0; records = []; s
 
 -- the old table's used places without the flow at the place
 unfoldable pub withoutFlow : Removing → Sections
-withoutFlow r = recut (used (r .table)) (leaving (r .place))
+withoutFlow r = recut (used (r .table .sections)) (leaving (r .place))
 
 -- the rule on which flow goes
 unfoldable pub leaveRules : List (Removing → Answer)
-leaveRules = (λ r. code15Removing (factsOf (r .table)) (r .place)) ∷ []
+leaveRules = (λ r. code15Removing (factsOf (r .table .sections)) (r .place)) ∷ []
 
 unfoldable pub removeAnswer : Removing → Answer
-removeAnswer = firstOf (on (λ r. r .table) tableRules ++ leaveRules) noNumber
+removeAnswer = firstOf (on (λ r. r .table) oldRules ++ leaveRules) noNumber
 
 unfoldable pub removeOf : Removing → Changed
 removeOf r =
     record {
       answer = removeAnswer r;
-      table = cond (isDone (removeAnswer r)) (tableOf (withoutFlow r)) (r .table);
+      table = cond (isDone (removeAnswer r)) (keptOf (withoutFlow r)) (r .table);
     }
 
 -- START: 1 to 8, 9, 13. Slot 0, each flow's byte equal to its L, unused places 0; bytes past 36 untouched; refused, nothing touched

@@ -1,5 +1,5 @@
--- Codes 1 to 8, 14, 15 and 13: when each is given, and with which number. Code 9 stands with the bound, 10 to 12 behind the slot. Leans on
--- Layout, Facts, Table and Answers.
+-- Codes 1 to 8, 14, 15 and 13: when each is given, and with which number. Code 9 stands with the bound, 10 to 12 behind the slot, 17 with
+-- the figures. Leans on Layout, Facts, Table and Answers.
 use Prim.Native.Nat.{ℕ, _+_, _-_, _*_, _%_}
 use mathlib.Core.Bool.{Bool, not, _&&_, _||_}
 use mathlib.Core.List.{List}

@@ -1,4 +1,4 @@
--- The first index at which a test holds. Codes 5, 6, 8, 9, 10 and 11 report it, and the response bound is one. Leans on nothing.
+-- The first index at which a test holds. Codes 5, 6, 8, 9, 10, 11 and 17 report it, and the response bound is one. Leans on nothing.
 use Prim.Native.Nat.{ℕ, zero, suc, _+_, max}
 use mathlib.Core.Bool.{Bool, true, false}
 use mathlib.Core.List.{List, [], _∷_}

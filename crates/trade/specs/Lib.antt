@@ -20,6 +20,7 @@ pub mod SlotCodes
 pub mod Run
 -- The calls, the proved cases, and lines of our own.
 pub mod Exchange
+pub mod Kept
 pub mod Calls
 pub mod Cases
 pub mod Pins

@@ -18,7 +18,8 @@ use Rattle.trade.specs.Slot.{Releases, periodic, releasesOf, grantsOf}
 use Rattle.trade.specs.Area.{stateIn}
 use Rattle.trade.specs.Codes.{code3, code6}
 use Rattle.trade.specs.SlotCodes.{code10}
-use Rattle.trade.specs.Calls.{readOf, checkOf, writeOf, addOf, removeOf, startOf, advanceOf, recordOf}
+use Rattle.trade.specs.Kept.{Tabled}
+use Rattle.trade.specs.Calls.{readOf, checkOf, checkKeptOf, writeOf, addOf, removeOf, startOf, advanceOf, recordOf}
 use Rattle.trade.specs.Cases.{bookA, bookB, tableA, deadlineAt, deadlineOf9, lent, slotOf, sends, oneDisturbs, noneDisturbs, checks}
 use Rattle.trade.specs.declared.answer.Answer.{Answer}
 use Rattle.trade.specs.declared.flow.Flow.{Flow}
@@ -115,6 +116,24 @@ bookOf4 = set (bookOf (alike 3 4 10)) 70 2
 unfoldable pub fullTable : Sections
 fullTable = alike 2 mostFlows mostPeriod
 
+-- sections with these figures; with one figure alone, of flow 1 and flow 0; and book A's table, whose figure is 2
+abbrev pub withFigures : Sections → List ℕ → Tabled
+withFigures t figures = record { sections = t; figures = figures }
+
+unfoldable pub oneFigure : ℕ → List ℕ
+oneFigure figure = replicate 32 0 ++ (figure ∷ replicate 991 0)
+
+unfoldable pub keptA : Tabled
+keptA = withFigures tableA (oneFigure 2)
+
+-- the full table with all its figures, 1 each, and 1 at every other place too
+unfoldable pub fullKept : Tabled
+fullKept = withFigures fullTable (replicate 1024 1)
+
+-- what check answers to a table
+unfoldable pub checksKept : Tabled → Answer
+checksKept table = checkKeptOf table .answer
+
 -- whether A to B and C to D conflict, and whether 0 to 6 does with one of them, where nobody disturbs
 unfoldable pub meets : ℕ → ℕ → ℕ → ℕ → Bool
 meets a b c d = conflict noneDisturbs (sends a b) (sends c d)
@@ -134,10 +153,10 @@ unfoldable pub due : ℕ → Bool
 due slot = releasesAt slot .due 2
 
 -- what the calls on a table answer
-unfoldable pub adds : Sections → ℕ → Flow → List ℕ → Answer
+unfoldable pub adds : Tabled → ℕ → Flow → List ℕ → Answer
 adds table place flow plan = addOf (record { table = table; place = place; flow = flow; plan = plan ++ replicate (stepBytes * mostSteps - length plan) 0 }) .answer
 
-unfoldable pub removes : Sections → ℕ → Answer
+unfoldable pub removes : Tabled → ℕ → Answer
 removes table place = removeOf (record { table = table; place = place }) .answer
 
 unfoldable pub writes : Sections → ℕ → Answer
@@ -230,23 +249,37 @@ pub record Pins : Type 0 where
   pub order-10-12 : advances (areaWith 4000000000 3 3 1) 18 ≡ refused 10 2
   pub order-12-11 : advances (areaWith 4000000000 1 1 0) 18 ≡ refused 12 0
   -- on adding and removing
-  pub order-8-14 : adds (withSteps fullTable (set (fullTable .steps) 3 0)) 33 (flowOf 1 10 1) [] ≡ refused 8 1
-  pub order-14-15 : adds fullTable 33 (flowOf 1 10 1) [] ≡ refused 14 0
-  pub order-15-6 : adds tableA 3 (flowOf 0 10 1) [] ≡ refused 15 0
-  pub order-6-8 : adds tableA 2 (flowOf 7 10 1) [] ≡ refused 6 2
-  pub order-later-id : adds tableA 0 (flowOf 9 10 1) (0 ∷ 1 ∷ []) ≡ refused 6 2
-  pub order-8-9-adding : adds tableA 0 (flowOf 1 10 11) [] ≡ refused 8 0
-  pub order-8-adding : adds tableA 1 (flowOf 1 1 1) (2 ∷ 2 ∷ []) ≡ refused 8 3
-  pub order-9-adding : adds tableA 0 (flowOf 1 6 6) (0 ∷ 1 ∷ 0 ∷ 1 ∷ 0 ∷ 1 ∷ 0 ∷ 1 ∷ 0 ∷ 1 ∷ 0 ∷ 1 ∷ []) ≡ refused 9 1
-  pub order-6-15 : removes (sectionsOf (noId bookA)) 2 ≡ refused 6 1
+  pub order-8-14 : adds (withFigures (withSteps fullTable (set (fullTable .steps) 3 0)) []) 33 (flowOf 1 10 1) [] ≡ refused 8 1
+  pub order-14-15 : adds fullKept 33 (flowOf 1 10 1) [] ≡ refused 14 0
+  pub order-15-6 : adds keptA 3 (flowOf 0 10 1) [] ≡ refused 15 0
+  pub order-6-8 : adds keptA 2 (flowOf 7 10 1) [] ≡ refused 6 2
+  pub order-later-id : adds keptA 0 (flowOf 9 10 1) (0 ∷ 1 ∷ []) ≡ refused 6 2
+  pub order-8-9-adding : adds keptA 0 (flowOf 1 10 11) [] ≡ refused 8 0
+  pub order-8-adding : adds keptA 1 (flowOf 1 1 1) (2 ∷ 2 ∷ []) ≡ refused 8 3
+  pub order-9-adding : adds keptA 0 (flowOf 1 6 6) (0 ∷ 1 ∷ 0 ∷ 1 ∷ 0 ∷ 1 ∷ 0 ∷ 1 ∷ 0 ∷ 1 ∷ 0 ∷ 1 ∷ []) ≡ refused 9 1
+  pub order-6-15 : removes (withFigures (sectionsOf (noId bookA)) []) 2 ≡ refused 6 1
+  -- 17, with the first l that has a wrong figure: of the full table those of flows 3 and 5, of book A one that is too small and one that is too
+  -- large; a figure at h = l, or of an unused l, is not asked for
+  pub wrong-figure : removes (withFigures tableA (oneFigure 1)) 0 ∷ removes (withFigures tableA (oneFigure 3)) 0 ∷ [] ≡ refused 17 1 ∷ refused 17 1 ∷ []
+  pub wrong-line : adds (withFigures fullTable (set (set (replicate 1024 1) 98 0) 160 2)) 33 (flowOf 1 10 1) [] ≡ refused 17 3
+  pub not-asked-for : removes (withFigures tableA (set (set (oneFigure 2) 33 9) 64 9)) 2 ≡ refused 15 0
+  pub order-8-17 : removes (withFigures (sectionsOf (jump bookA)) (oneFigure 1)) 2 ≡ refused 8 2
+  pub order-17-14 : adds (withFigures fullTable (replicate 1024 0)) 33 (flowOf 1 10 1) [] ≡ refused 17 1
+  pub order-17-15 : removes (withFigures tableA (oneFigure 1)) 2 ≡ refused 17 1
+  -- a table is checked by its figures as they stand: with 3 in place of 2 flow 9 of book A has the bound 9, with 1 the bound 5, with 30 none
+  pub kept-right : checkKeptOf keptA ≡ record { answer = done 0; bounds = 3 ∷ 7 ∷ replicate 30 0 }
+  pub kept-larger : checkKeptOf (withFigures tableA (oneFigure 3)) ≡ record { answer = done 0; bounds = 3 ∷ 9 ∷ replicate 30 0 }
+  pub kept-smaller : checkKeptOf (withFigures tableA (oneFigure 1)) ≡ record { answer = done 0; bounds = 3 ∷ 5 ∷ replicate 30 0 }
+  pub kept-refused : checkKeptOf (withFigures tableA (oneFigure 30)) ≡ record { answer = refused 9 1; bounds = replicate mostFlows 0 }
+  pub kept-order : checksKept (withFigures (sectionsOf (jump bookA)) (oneFigure 30)) ∷ checksKept (withFigures (sectionsOf (noId (jump bookA))) []) ∷ [] ≡ refused 8 2 ∷ refused 6 1 ∷ []
   -- WHAT A CALL LEAVES, done and refused: behind what it writes, lent memory stays as it was
-  pub read-done : readOf bookA ≡ record { answer = done 0; table = tableA }
-  pub read-refused : readOf (noId bookA) ≡ record { answer = refused 6 1; table = emptyTable }
+  pub read-done : readOf bookA ≡ record { answer = done 0; table = keptA }
+  pub read-refused : readOf (noId bookA) ≡ record { answer = refused 6 1; table = withFigures emptyTable (replicate 1024 0) }
   pub write-done : writeOf (record { table = tableA; buffer = lent 92 }) ≡ record { answer = done 90; buffer = bookA ++ lent 2 }
   pub write-refused : writeOf (record { table = tableA; buffer = lent 89 }) ≡ record { answer = refused 13 0; buffer = lent 89 }
   pub add-refused :
-      addOf (record { table = tableA; place = 3; flow = flowOf 1 10 1; plan = [] }) ≡ record { answer = refused 15 0; table = tableA }
-  pub remove-refused : removeOf (record { table = tableA; place = 2 }) ≡ record { answer = refused 15 0; table = tableA }
+      addOf (record { table = keptA; place = 3; flow = flowOf 1 10 1; plan = [] }) ≡ record { answer = refused 15 0; table = keptA }
+  pub remove-refused : removeOf (record { table = keptA; place = 2 }) ≡ record { answer = refused 15 0; table = keptA }
   pub start-done : startOf (record { book = bookA; area = lent 38 }) ≡ record { answer = done 0; area = areaWith 0 3 3 0 ++ lent 2 }
   pub start-refused : startOf (record { book = tooTight bookA; area = lent 38 }) ≡ record { answer = refused 9 1; area = lent 38 }
   pub advance-done :
@@ -257,7 +290,7 @@ pub record Pins : Type 0 where
       ≡ record { answer = refused 11 1; area = areaWith 60 3 2 0; grants = lent 20 }
   -- WHAT THE CALLS DO. A flow comes in with its record and the L steps of its plan, between flows 7 and 9
   pub added :
-      bookOf (addOf (record { table = tableA; place = 1; flow = flowWith 1 2 60 50 1; plan = 0 ∷ 1 ∷ replicate 62 9 }) .table)
+      bookOf (addOf (record { table = keptA; place = 1; flow = flowWith 1 2 60 50 1; plan = 0 ∷ 1 ∷ replicate 62 9 }) .table .sections)
       ≡ take 58 bookA
       ++ (0 ∷ 1 ∷ 0 ∷ 2 ∷ 0 ∷ 60 ∷ 0 ∷ 50 ∷ 0 ∷ 1 ∷ [])
       ++ take 10 (drop 58 bookA)
@@ -266,8 +299,23 @@ pub record Pins : Type 0 where
       ++ take 6 (drop 74 bookA)
       ++ (0x00 ∷ 0x66 ∷ 0x00 ∷ 0x36 ∷ 0x00 ∷ 0x18 ∷ 0x06 ∷ 0x03 ∷ 0x46 ∷ 0x42 ∷ [])
   -- a flow goes with its record and its steps, and no other: book A without flow 7, and without flow 9
-  pub removed-first : bookOf (removeOf (record { table = tableA; place = 0 }) .table) ≡ take 48 bookA ++ take 10 (drop 58 bookA) ++ take 6 (drop 74 bookA) ++ trailerOfThree
-  pub removed-last : bookOf (removeOf (record { table = tableA; place = 1 }) .table) ≡ take 58 bookA ++ take 6 (drop 68 bookA) ++ trailerOfThree
+  pub removed-first : bookOf (removeOf (record { table = keptA; place = 0 }) .table .sections) ≡ take 48 bookA ++ take 10 (drop 58 bookA) ++ take 6 (drop 74 bookA) ++ trailerOfThree
+  pub removed-last : bookOf (removeOf (record { table = keptA; place = 1 }) .table .sections) ≡ take 58 bookA ++ take 6 (drop 68 bookA) ++ trailerOfThree
+  -- the figures go with the flows. A flow that sends 4-3 once comes in between flows 7 and 9 of book A: flow 7 costs it 1, and it costs flow 9
+  -- 1; taken out again, the figures are those of before, and whatever stood at other places is zero
+  pub added-figures :
+      take 128 (addOf (record { table = keptA; place = 1; flow = flowWith 1 2 60 50 1; plan = 4 ∷ 3 ∷ replicate 62 9 }) .table .figures)
+      ≡ replicate 32 0 ++ (1 ∷ replicate 31 0) ++ (2 ∷ 1 ∷ replicate 62 0)
+  pub figures-again :
+      removeOf
+      (record {
+        table = addOf (record { table = withFigures tableA (set (set (oneFigure 2) 33 9) 64 9); place = 1; flow = flowWith 1 2 60 50 1; plan = 4 ∷ 3 ∷ replicate 62 9 }) .table;
+        place = 1;
+      })
+      .table
+      .figures
+      ≡ oneFigure 2
+  pub removed-figures : removeOf (record { table = withFigures tableA (set (set (oneFigure 2) 33 9) 64 9); place = 1 }) .table .figures ≡ replicate 1024 0
   -- two transmissions that share a node, in each of the six ways, conflict; a third waits for either of two
   pub shared-node :
       meets 0 0 2 3 ∷ meets 0 1 2 2 ∷ meets 0 1 0 3 ∷ meets 0 1 2 0 ∷ meets 0 1 1 3 ∷ meets 0 1 2 1 ∷ []

@@ -1,9 +1,7 @@
 -- `bounds::bounds::bounds_of` meets its contract: each flow passed has its bound, which stands in the array. Assumes nothing.
 use Prim.Native.Nat.{ℕ, _+_, _-_, _≤_, _<_}
-use mathlib.Core.Path.{_≡_, refl, sym, _∙_, ap, ap₂}
-use mathlib.Core.Bool.{false}
+use mathlib.Core.Path.{_≡_, refl, sym, _∙_, ap}
 use mathlib.Core.List.{List}
-use borrow.Author.Count.{below-more}
 use denote.Ref.{now}
 use lib.ListN.{getD}
 use native.Mathlib.Numerals.{add-one}
@@ -12,27 +10,22 @@ use native.Mathlib.Nat.{lt-of-lt-of-le}
 use Rattle.trade.specs.Limits.{mostFlows, mostPeriod}
 use Rattle.trade.specs.Layout.{field}
 use Rattle.trade.specs.Facts.{Facts, factsIn, factsOf, flowIn}
-use Rattle.trade.specs.Bound.{byInterference, measure, bound, boundless}
-use Rattle.trade.specs.Calls.{boundsBy}
+use Rattle.trade.specs.Bound.{byInterference, measure, bound}
 use Rattle.trade.specs.declared.answer.Answer.{Answer}
 use Rattle.trade.specs.declared.flow.Flow.{Flow}
 use Rattle.bounds.specs.Bounds.{refusedBy}
 use Rattle.trade.proofs.Alike.{Alike, alike-counts, byInterference-alike, bound-prefix}
 use Rattle.sections.proofs.FormedLaws.{formed-less}
-use Rattle.bounds.proofs.BoundsLaws.{boundless-over, boundless-in, bounded-refused, bounded-done}
+use Rattle.bounds.proofs.BoundsLaws.{Bounding, bounding-none, bounding-more, bounded-refused, bounded-done}
 use Rattle.pairs.proofs.SpreadLaws.{zeros}
 use Rattle.figures.proofs.FiguresLaws.{all-heard}
-use Rattle.figures.proofs.Padded.{filled, filled-none, filled-more, filled-at}
+use Rattle.figures.proofs.Padded.{filled-at}
 use Rattle.bounds.proofs.bounds.bounds_of.Statement.{statement}
 use Rattle.bounds.proofs.bounds.bounds_of.Tie as tie
 
 abbrev Inv-loop : tie.InvT-loop
 Inv-loop flows rows records steps heard bounds₀ periods₀ carries₀ l₀ bounds periods carries l =
-    (l ≤ flows)
-    × (bounds ≡ filled mostFlows (bound (factsIn 0 flows rows records steps)) l)
-    × (periods ≡ filled mostFlows (λ h. field records h 2) l)
-    × (carries ≡ filled mostFlows (λ h. field records h 3) l)
-    × ((k : ℕ) → k < l → boundless (factsIn 0 flows rows records steps) k ≡ false)
+    (l ≤ flows) × Bounding (factsIn 0 flows rows records steps) (measure (factsIn 0 flows rows records steps)) l bounds periods carries
 
 abbrev μ-loop : tie.MeasureT-loop
 μ-loop flows rows records steps heard bounds₀ periods₀ carries₀ l₀ bounds periods carries l = flows - l
@@ -41,16 +34,7 @@ hear-above-requires : tie.Need-hear-above-requires Inv-loop μ-loop
 hear-above-requires c κs = (c .before .before .before .before .pre, (refl, λ y h. zeros 64 y))
 
 loop-holds : tie.Need-loop-holds Inv-loop μ-loop
-loop-holds c =
-    let s = c .before .before .before .before .before .before in
-    let a = s .args in
-    let f : Facts = factsIn 0 (a .flows) (now (a .rows)) (now (a .records)) (now (a .steps)) in (
-      omega arith,
-      sym (filled-none mostFlows (bound f)),
-      sym (filled-none mostFlows (λ (h : ℕ). field (now (a .records)) h 2)),
-      sym (filled-none mostFlows (λ (h : ℕ). field (now (a .records)) h 3)),
-      λ k h. absurd (omega arith),
-    )
+loop-holds c = (omega arith, bounding-none _ _)
 
 record-at-requires : tie.Need-record-at-requires Inv-loop μ-loop
 record-at-requires c κs = omega (arith, c .before .before .before .before .before .before .before .before .pre .recorded)
@@ -59,6 +43,7 @@ slice-aggregate-bound-at : tie.Need-slice-aggregate-bound-at Inv-loop μ-loop
 slice-aggregate-bound-at c = sym (c .before .before .before .before .before .hear-above .ensures .size)
 
 bound-at-requires : tie.Need-bound-at-requires Inv-loop μ-loop
+unfolding factsOf
 bound-at-requires c κs =
     let s = c .before .before .before .before .before .before .before .before .before .before .before .before in
     let a = s .args in
@@ -67,10 +52,10 @@ bound-at-requires c κs =
     let records : List ℕ = now (a .records) in (
       formed-less (loop .l + 1) (a .flows) (now (a .rows)) records (now (a .steps)) (omega arith) formed,
       (
-        λ h b. rw (loop .inv .2) (filled-at mostFlows (λ (k : ℕ). field records k 2) (loop .l) h b),
+        λ h b. rw (loop .inv .1 .period) (filled-at mostFlows (λ (k : ℕ). field records k 2) (loop .l) h b),
         (
           λ h b.
-              rw (loop .inv .3, filled-at mostFlows (λ (k : ℕ). field records k 3) (loop .l) h b)
+              rw (loop .inv .1 .carry, filled-at mostFlows (λ (k : ℕ). field records k 3) (loop .l) h b)
               (formed .fields h (omega arith) .deadline .0, omega (arith, formed .fields h (omega arith) .deadline .1, formed .fields h (omega arith) .period .1)),
           (
             omega (arith, c .before .before .before .before .before .before .before .hear-above .ensures .size),
@@ -110,7 +95,7 @@ bounded c =
     c .bound-at .ensures
     ∙ bound-prefix (loop .l + 1) f g alike (byInterference f carry) (measure g)
     (byInterference-alike (loop .l + 1) f g alike carry (g .deadline)
-    (λ l h p b. rw (loop .inv .3) (filled-at mostFlows (g .deadline) (loop .l) h (omega arith))))
+    (λ l h p b. rw (loop .inv .1 .carry) (filled-at mostFlows (g .deadline) (loop .l) h (omega arith))))
     (loop .l) (omega arith)
 
 cast-if1 : tie.Need-cast-if1 Inv-loop μ-loop
@@ -132,7 +117,7 @@ returns c =
     rw (← fields (c .before .before .before .before .before .before .before .before) .1, ← bounded (c .before .before .before .before)) (c .before .before .if1 .taken) in
     c .refused2 .ensures
     ∙ ap refusedBy (c .before .refused .ensures)
-    ∙ sym (bounded-refused f (loop .l) (omega arith) (loop .inv .4) (boundless-over f (measure f) (loop .l) over))
+    ∙ sym (bounded-refused f (measure f) (loop .l) _ _ _ (omega arith) over (loop .inv .1))
 
 cast-bounds : tie.Need-cast-bounds Inv-loop μ-loop
 cast-bounds c = omega (arith, fields (c .before .before .before .before .before .before))
@@ -166,29 +151,22 @@ loop-again c =
     let loop = c .before .before .before .before .before .before .before .before .loop in
     let f : Facts = factsIn 0 (a .flows) (now (a .rows)) (now (a .records)) (now (a .steps)) in
     let said = fields (c .before .before .before .before .before .before) in
-    let within : bound f (loop .l) ≤ field (now (a .records)) (loop .l) 3 =
-    rw (← said .1, ← bounded (c .before .before)) (c .if1 .left) in
     let room : loop .l < mostFlows = lt-of-lt-of-le (c .before .before .before .before .before .before .before .loop-test .taken) (s .pre .most) in (
       rw (add-one (loop .l)) (c .before .before .before .before .before .before .before .loop-test .taken),
-      rw (loop .inv .1, bounded (c .before .before)) (filled-more mostFlows (bound f) (loop .l) room),
-      rw (loop .inv .2, said .0) (filled-more mostFlows (λ (h : ℕ). field (now (a .records)) h 2) (loop .l) room),
-      rw (loop .inv .3, said .1) (filled-more mostFlows (λ (h : ℕ). field (now (a .records)) h 3) (loop .l) room),
-      below-more _ _ (loop .inv .4) (boundless-in f (measure f) (loop .l) within),
+      bounding-more f (measure f) (loop .l) _ _ _ _ _ _ room (bounded (c .before .before)) (said .0) (said .1) (c .if1 .left) (loop .inv .1),
     )
 
 done-requires : tie.Need-done-requires Inv-loop μ-loop
 done-requires c κs = tt
 
 returns-2 : tie.Need-returns-2 Inv-loop μ-loop
-unfolding factsOf boundsBy
+unfolding factsOf
 returns-2 c =
     let a = c .before .before .before .before .before .before .before .before .before .args in
     let loop = c .before .before .loop in
     let f : Facts = factsIn 0 (a .flows) (now (a .rows)) (now (a .records)) (now (a .steps)) in
-    let e : loop .l ≡ a .flows = omega arith in
-    ap₂ (λ (answer : Answer) (bounds : List ℕ). record { answer = answer; bounds = bounds }) (c .done .ensures)
-    (loop .inv .1 ∙ ap (filled mostFlows (bound f)) e)
-    ∙ sym (bounded-done f (λ k h. loop .inv .4 k (omega arith)))
+    ap (λ (answer : Answer). record { answer = answer; bounds = loop .bounds }) (c .done .ensures)
+    ∙ bounded-done f (measure f) (loop .l) _ _ _ (omega arith) (loop .inv .1)
 
 pub bounds-of-spec : {M : Type 1} → statement M
 bounds-of-spec =

@@ -16,7 +16,7 @@ use Rattle.bounds.proofs.rising.slots_needed.Tie as tie
 
 -- the most that one flow above adds
 abbrev most : ℕ
-most = 2 * mostPeriod * mostSteps
+most = 2 * mostPeriod * 255
 
 abbrev Inv-loop : tie.InvT-loop
 Inv-loop len above figures periods carries r sum₀ h₀ sum h =

@@ -6,7 +6,7 @@ use Rattle.trade.specs.Calls.{readAnswer, checkAnswer}
 use Rattle.trade.specs.declared.answer.Answer.{Answer}
 use Rattle.book.specs.Frame.{openedOf}
 use Rattle.book.specs.declared.parts.Opened.{Opened}
-use Rattle.bounds.specs.Bounds.{boundedBy}
+use Rattle.bounds.specs.Bounds.{boundedIn}
 use Rattle.bounds.specs.declared.bounds.Checked.{Checked}
 use Rattle.bounds.proofs.CheckLaws.{check-refused, check-passed, said-bounded}
 use Rattle.book.proofs.OpenBookLaws.{OpenBook, open-book}
@@ -22,7 +22,7 @@ opened c = open-book (now (c .before .before .before .before .before .before .ar
 
 -- the bounds answer as check does
 checked : (c : tie.After-bounds-of) → c .bounds-of .result .answer ≡ checkAnswer (now (c .before .before .before .before .before .before .before .before .before .before .before .args .book))
-unfolding boundedBy said factsOf
+unfolding boundedIn said factsOf
 checked c =
     let b = now (c .before .before .before .before .before .before .before .before .before .before .before .args .book) in
     let o = opened (c .before .before .before .before .before) in

@@ -3,13 +3,12 @@
 use mathlib.Core.Path.{_≡_, _∙_, sym, ap}
 use denote.Ref.{now}
 use native.Mathlib.Omega.{arith}
-use Rattle.trade.specs.Layout.{sections, sectionsOf}
-use Rattle.trade.specs.Bytes.{padded}
-use Rattle.trade.specs.Table.{rowsRoom, recordsRoom, stepsRoom}
+use Rattle.trade.specs.Layout.{sectionsOf}
 use Rattle.trade.specs.Calls.{readAnswer, readOf}
 use Rattle.book.specs.Frame.{frameOf, Lies, openedOf}
 use Rattle.book.specs.declared.parts.Opened.{Opened}
-use Rattle.book.proofs.OpenBookLaws.{done-lies, open-frame, rows-fit, records-fit, steps-fit}
+use Rattle.book.proofs.OpenBookLaws.{done-lies, open-frame, book-formed, rows-fit, records-fit, steps-fit}
+use Rattle.table.specs.Table.{tableWith}
 use Rattle.table.proofs.ReadLaws.{read-refused, read-done}
 use borrow.Author.Needs.{needs}
 use Rattle.table.proofs.table.read.Statement.{statement}
@@ -48,12 +47,16 @@ steps-of-requires : tie.Need-steps-of-requires
 steps-of-requires c κs = laid (c .before .before .before .before .before)
 
 table-of-requires : tie.Need-table-of-requires
+unfolding frameOf sectionsOf
 table-of-requires c κs =
     let book = now (c .before .before .before .before .before .before .before .before .before .before .before .args .book) in
-    let done = opened (c .before .before .before .before .before .before) .0 in (
-      rw (c .before .before .rows-of .ensures) (rows-fit book done),
-      rw (c .before .records-of .ensures) (records-fit book done),
-      rw (c .steps-of .ensures) (steps-fit book done),
+    let (done, frame) = opened (c .before .before .before .before .before .before) in (
+      (
+        rw (c .before .before .rows-of .ensures) (rows-fit book done),
+        rw (c .before .records-of .ensures) (records-fit book done),
+        rw (c .steps-of .ensures) (steps-fit book done),
+      ),
+      rw (frame, c .before .before .rows-of .ensures, c .before .records-of .ensures, c .steps-of .ensures) (book-formed book done),
     )
 
 returns-2 : tie.Need-returns-2
@@ -66,8 +69,8 @@ returns-2 c =
       table =
           c .table-of .ensures
           ∙ (λ i.
-          sections (done .1 i .nodes) (done .1 i .flows) (padded rowsRoom (c .before .before .before .rows-of .ensures i))
-          (padded recordsRoom (c .before .before .records-of .ensures i)) (padded stepsRoom (c .before .steps-of .ensures i)))
+          tableWith (done .1 i .nodes) (done .1 i .flows) (c .before .before .before .rows-of .ensures i) (c .before .before .records-of .ensures i)
+          (c .before .steps-of .ensures i))
           ∙ sym (read-done book (done .0));
     }
 

@@ -1,0 +1,13 @@
+-- `changes::change::add` meets its contract: what it lends is a table in memory, its figures twice. Assumes nothing.
+use mathlib.Core.Path.{refl}
+use borrow.Author.Needs.{needs}
+use Rattle.changes.proofs.change.add.Statement.{statement}
+use Rattle.changes.proofs.change.add.Tie as tie
+
+enter-requires : tie.Need-enter-requires
+enter-requires c κs =
+    (record { sections = record { rows = search needs; records = search needs; steps = search needs }; figures = search needs }, refl)
+
+pub add-spec : {M : Type 1} → statement M
+add-spec =
+    tie.close (tie.spec (λ c. search needs) (λ c. search needs) (λ c. search needs) (λ c. search needs) (λ c. search needs) enter-requires (λ c. search needs))

@@ -1,0 +1,3 @@
+-- Laws that the proofs of this crate's functions, and those above it, cite.
+pub mod RulesLaws
+pub mod Unique

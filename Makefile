@@ -12,10 +12,10 @@ list:
 test:
 	bash .ci/run
 
-# Calls per second of the archive, beside those of a planner in Rust, and the stack that each call takes.
+# Calls per second of the archives, beside those of a planner in Rust, and the stack that each call takes.
 bench:
-	rt staticlib radio
-	host/build.sh target/staticlib/libradio.a
+	host/archives.sh
+	host/build.sh target/staticlib/libradio.a target/host target/staticlib/libtables.a
 	host/run.sh bench
 	host/stack.sh
 

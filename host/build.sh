@@ -1,12 +1,14 @@
 #!/bin/sh
-# Builds the host's programs: host/build.sh [ARCHIVE] [OUT]
+# Builds the host's programs: host/build.sh [ARCHIVE] [OUT] [TABLES]
 #   ARCHIVE   the static library with slot_check, slot_start and slot_advance; without it (or with -) the programs
 #             know the planners plain and keen alone, and the C program is compiled and not linked
 #   OUT       the folder for what is built; target/host if not given
+#   TABLES    beside ARCHIVE, the static library with the calls on a table that bench times (archives.sh makes it)
 set -eu
 here=$(cd "$(dirname "$0")" && pwd)
 archive=${1:--}
 out=${2:-$here/../target/host}
+tables=${3:--}
 . "$here/machine.sh"
 
 mkdir -p "$out"
@@ -14,15 +16,21 @@ flags="--edition 2021 -O -D warnings $rust_target"
 link=
 if [ "$archive" = - ]; then
     echo "host: no archive given, so nothing is compared with the proved library"
+    tables=-
 else
-    [ -f "$archive" ] || { echo "host: no such archive: $archive" >&2; exit 1; }
     link="--cfg proved"
+    [ "$tables" = - ] || link="$link --cfg tables"
 fi
+for file in "$archive" "$tables"; do
+    [ "$file" = - ] || [ -f "$file" ] || { echo "host: no such archive: $file" >&2; exit 1; }
+done
 
 $rustc $flags $link --crate-type rlib --crate-name slot_host -o "$out/libslot_host.rlib" "$here/src/lib.rs"
 for program in cases compare monitor bench requests; do
     set -- --extern "slot_host=$out/libslot_host.rlib" -o "$out/$program" "$here/src/bin/$program.rs"
-    [ -z "$link" ] || set -- -C "link-arg=$archive" "$@"
+    for file in "$archive" "$tables"; do
+        [ "$file" = - ] || set -- -C "link-arg=$file" "$@"
+    done
     $rustc $flags "$@"
 done
 

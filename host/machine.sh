@@ -31,7 +31,8 @@ aarch64)
     rustc=${RUSTC:-/usr/bin/rustc}
     rust_target="--target x86_64-unknown-linux-gnu -C linker=x86_64-linux-gnu-gcc"
     cc=x86_64-linux-gnu-gcc
-    emulator=qemu-x86_64
+    # Where the processor says that it moves many bytes in one instruction, the C library lets it, and the emulator moves them one by one.
+    emulator="qemu-x86_64 -cpu max,-erms"
     packages="rustc-web libstd-rust-web-dev:amd64 gcc-x86-64-linux-gnu libc6-dev-amd64-cross qemu-user"
     missing=
     for package in $packages; do
@@ -43,7 +44,7 @@ aarch64)
     fi
     wants "$rustc" "rustc-web did not bring it"
     wants "$cc" "gcc-x86-64-linux-gnu did not bring it"
-    wants "$emulator" "qemu-user did not bring it"
+    wants qemu-x86_64 "qemu-user did not bring it"
     ;;
 *)
     echo "host: no way to build and run x86-64 programs on $(uname -m)" >&2

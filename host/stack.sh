@@ -1,34 +1,19 @@
 #!/bin/sh
 # The stack that each call takes, read out of its compiled code, as a table in Markdown:   host/stack.sh
 #   A call takes its return address, its frame, and the most that a function which it calls takes: the frames of the deepest chain are
-#   added up. Read, write, add and remove, which C does not have, come out of an archive that is made for it (tables.rattle), over
-#   copies of the crates. Check, start and advance come out of the archive for C, and must agree with what bench measures as they run.
+#   added up. It looks into the two archives that archives.sh makes. Check, start and advance must agree with what bench measures as
+#   they run.
 set -eu
 here=$(cd "$(dirname "$0")" && pwd)
 . "$here/machine.sh"
 objdump=$($cc -print-prog-name=objdump)
-work=$(mktemp -d)
-trap 'rm -rf "$work"' EXIT
-
-# quietly COMMAND..: what it prints is shown if it fails.
-quietly() {
-    "$@" >"$work/log" 2>&1 || { cat "$work/log" >&2; exit 1; }
-}
-
-cd "$here/.."
-quietly rt staticlib radio
-quietly rt check changes
-mkdir -p "$work/crates/tables/src" "$work/target"
-cp -r crates crates.txt "$work"
-cp -r target/rlib target/stamp "$work/target"
-cp host/tables.rattle "$work/crates/tables/src/lib.rt"
-echo "tables: trade table changes" >>"$work/crates.txt"
-(cd "$work" && quietly rt staticlib tables)
+archives=$here/../target/staticlib
 
 # frames ARCHIVE CALL=FUNCTION..: a line for each call.
 frames() {
     archive=$1
     shift
+    [ -f "$archive" ] || { echo "stack: no such archive: $archive (host/archives.sh makes it)" >&2; exit 1; }
     $objdump -dr --no-show-raw-insn "$archive" | awk -v asked="$*" '
     # Of 64 bits, the highest of them the sign.
     function number(hex,   k, n, digit, negative) {
@@ -110,6 +95,7 @@ frames() {
             split(words[i], pair, "=")
             f = pair[2]
             if (!(f in own)) fails(f " is no function of its own")
+            gsub(/_/, " ", pair[1])
             line = "| " pair[1] " | " (8 + taken(f)) " |"
             for (; f in own; f = deeper[f]) line = line " " f " " own[f] ";"
             sub(/;$/, " |", line)
@@ -120,6 +106,6 @@ frames() {
 
 echo "| stack | bytes | the deepest chain, and the frames |"
 echo "|---|---:|---|"
-frames target/staticlib/libradio.a check=slot_check start=slot_start advance=slot_advance
-frames "$work/target/staticlib/libtables.a" read=table::table::read write=table::written::write \
-    add=changes::change::add remove=changes::change::remove
+frames "$archives/libradio.a" check=slot_check start=slot_start advance=slot_advance
+frames "$archives/libtables.a" read=table::table::read write=table::written::write add=changes::change::add \
+    remove=changes::change::remove check_of_a_table=table::checked::check_table

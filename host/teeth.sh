@@ -1,6 +1,7 @@
 #!/bin/sh
-# Whether the comparison has teeth: each line below spoils one rule in a copy of keen, and compare has to see it. All copies stand
-# beside keen in one build of the host; keen itself must show no difference. It needs no archive.   host/teeth.sh
+# Whether the comparison has teeth: each line below spoils one rule in a copy of keen, and compare has to see it or, of the calls on a
+# table, requests. All copies stand beside keen in one build of the host; keen itself must show no difference. It needs no archive.
+#   host/teeth.sh
 set -eu
 here=$(cd "$(dirname "$0")" && pwd)
 . "$here/machine.sh"
@@ -8,6 +9,8 @@ work=$(mktemp -d)
 trap 'rm -rf "$work"' EXIT
 cp -r "$here/src" "$work/src"
 count=0
+# The program that has to see what is spoiled.
+by=compare
 
 # spoil FILE EDIT WHAT: an edit that changes nothing is a fault of this list.
 spoil() {
@@ -23,14 +26,15 @@ spoil() {
     echo "pub mod $copy;" >>"$work/src/lib.rs"
     sed -i "/^ *&Keen,/a &crate::$copy::Keen," "$work/src/planner.rs"
     echo "$3" >"$work/$copy.what"
+    echo "$by" >"$work/$copy.by"
 }
 
 spoil bound.rs 's/carry: record.deadline - 1/carry: 0/' "ceil(R / P) instances"
 spoil bound.rs 's/carry: record.deadline - 1/carry: record.deadline/' "one carried slot too many"
 spoil bound.rs 's/bound > record.deadline/bound >= record.deadline/' "a bound that equals the deadline refused"
 spoil bound.rs 's/u64::from(columns.marks(step))/((1 << len) - 1)/' "I as the length of the plan above"
-spoil bound.rs 's/charge(taken(&digits, end))/charge(words.map(|word| (word >> (end - len) \& ((1 << len) - 1)).count_ones()).iter().sum())/' "I as the number of marks"
-spoil bound.rs 's/has_bound(record, above)/has_bound(record, \&mut above[l.saturating_sub(1)..])/' "only the flow just above in the bound"
+spoil bound.rs 's/taken(&digits, end))/words.map(|word| (word >> (end - len) \& ((1 << len) - 1)).count_ones()).iter().sum())/' "I as the number of marks"
+spoil bound.rs 's/bound(record, above)/bound(record, \&mut above[l.saturating_sub(1)..])/' "only the flow just above in the bound"
 
 # What a node of the plan disturbs, and what a node asked for does. In the upper half of a part are the steps that are sent.
 own='self.nodes\[disturbed\] |= part'
@@ -57,29 +61,54 @@ spoil slot.rs 's/position(|&byte| byte != 0)/position(|\&byte| byte > 1)/' "an u
 spoil slot.rs 's/late.trailing_zeros()/31 - late.leading_zeros()/' "the last flow with code 11"
 spoil slot.rs 's/if late != 0 {/if false {/' "no code 11"
 spoil mod.rs 's/GRANT_BYTES \* book.flows()/GRANT_BYTES * book.flows() - usize::from(book.flows() > 0)/' "a grant buffer one byte short"
-spoil book.rs 's/record.phase > MAX_PHASE/record.phase >= MAX_PHASE/' "phase 60,000 refused"
+spoil book.rs 's/self.phase > MAX_PHASE/self.phase >= MAX_PHASE/' "phase 60,000 refused"
 spoil book.rs 's/records\[..RECORD_BYTES \* i\]/records[RECORD_BYTES * i.saturating_sub(1)..RECORD_BYTES * i]/' "equal ids seen only next to each other"
 spoil book.rs 's/(beyond | 1 << x)/(beyond << 1 | 1 << x)/' "bit n let through"
 spoil book.rs 's/sender(step) != receiver(last)/(sender(step) != receiver(last)) \& (sender(step) != sender(last))/' "a step from the same sender let through"
 spoil book.rs 's/breaks == between_plans/breaks <= between_plans + 1/' "one jump let through"
 
+by=requests
+old='^ *test_figures(&old, table)?;$'
+spoil table.rs "s/$old//" "no code 17"
+spoil table.rs "/$old/{h;d};/let record = test_newcomer/{x;G}" "17 behind 14 and 15"
+spoil table.rs 's/packed(BAD_FIGURE, l)/packed(BAD_FIGURE, book.flows() - 1)/' "the last flow with code 17"
+spoil table.rs 's/above(&table.figures, l) == line/& \&\& table.figures[figure_at(l, l)] == 0/' "a figure of a flow and itself tested"
+spoil table.rs 's/above_mut(&mut table.figures, l).copy_from_slice(line);//' "reading without figures"
+spoil table.rs 's/new.fill(0)/new.copy_from_slice(figures)/' "figures that say nothing left by adding"
+spoil table.rs 's/old.line(plan, old.plans(), above_mut(new, place));//' "the line of a newcomer left out"
+spoil table.rs 's/old.line(lower, once(plan), &mut line\[place..=place\]);//' "the column of a newcomer left out"
+spoil table.rs 's/put_in(line, above(figures, l), place/put_in(line, above(figures, l), l/' "figures behind a newcomer not moved"
+spoil table.rs 's/bounds(new).map(|_| ())/&.or_else(|answer| if number_of(answer) > place { Ok(()) } else { Err(answer) })/' "the flows below a newcomer not tested"
+spoil table.rs 's/place.max(twin + 1)/place/' "the newcomer with code 6 for an id that stands behind it"
+spoil table.rs 's/^ *Book::of_table(table)?;$/Book::of_table(table)?.admit()?;/' "a check of a table by the right figures too"
+
 flags="--edition 2021 -O -A warnings $rust_target"
 $rustc $flags --crate-type rlib --crate-name slot_host -o "$work/libslot_host.rlib" "$work/src/lib.rs"
-$rustc $flags --extern "slot_host=$work/libslot_host.rlib" -o "$work/compare" "$work/src/bin/compare.rs"
+for program in compare requests; do
+    $rustc $flags --extern "slot_host=$work/libslot_host.rlib" -o "$work/$program" "$work/src/bin/$program.rs"
+done
 
-# alike PLANNER: whether compare finds it and plain alike. It may find a difference, and must not fail in another way.
+# alike PLANNER PROGRAM: whether the program finds it and plain alike. It may find a difference, and must not fail in another way.
 alike() {
-    if $emulator "$work/compare" --between "$1" plain >"$work/log" 2>&1; then
+    case $2 in
+    compare) set -- compare --between "$1" plain ;;
+    requests) set -- requests --of "$1" --calls 10000 ;;
+    esac
+    program=$work/$1
+    shift
+    if $emulator "$program" "$@" >"$work/log" 2>&1; then
         return 0
     fi
     grep -q MISMATCH "$work/log" || { cat "$work/log" >&2; exit 1; }
     return 1
 }
 
-alike keen || { cat "$work/log" >&2; exit 1; }
+for program in compare requests; do
+    alike keen "$program" || { cat "$work/log" >&2; exit 1; }
+done
 missed=0
 for copy in $(seq -f 'spoiled_%g' "$count"); do
-    if alike "$copy"; then
+    if alike "$copy" "$(cat "$work/$copy.by")"; then
         echo "teeth: $(cat "$work/$copy.what"): NOT SEEN"
         missed=$((missed + 1))
     else

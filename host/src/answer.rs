@@ -16,9 +16,10 @@ pub const END_REACHED: u32 = 12;
 pub const SHORT_MEMORY: u32 = 13;
 pub const TABLE_FULL: u32 = 14;
 pub const BAD_PLACE: u32 = 15;
+pub const BAD_FIGURE: u32 = 17;
 
 /// One more than the highest code.
-pub const CODES: usize = 16;
+pub const CODES: usize = 18;
 
 const CODE_UNIT: u32 = 65_536;
 

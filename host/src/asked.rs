@@ -1,4 +1,4 @@
-//! Requests for the four calls on a table and for check: ordinary ones, and ones at and past every edge.
+//! Requests for the five calls on a table and for check of a book: ordinary ones, and ones at and past every edge.
 
 use crate::aimed::{self, Aimed};
 use crate::answer::*;
@@ -7,10 +7,11 @@ use crate::dice::Dice;
 use crate::draft::{Draft, DraftFlow};
 use crate::generate::{accepted, newcomer, regular, Shape};
 use crate::limits::*;
+use crate::memory::{PlanBytes, Table};
 use crate::plain::book::Record;
-use crate::plain::table::{Table, PLAN_BYTES};
+use crate::plain::table::read;
 use crate::request::Request;
-use crate::tables::{at_random, littered, of_damaged, places};
+use crate::tables::{at_random, littered, of_damaged, off_by_one, places, refigured};
 
 /// A request, and the answer that it must get where that is known beforehand.
 pub struct Asked {
@@ -25,7 +26,7 @@ fn open(request: Request) -> Asked {
 /// A slice or a buffer of a request is at most this long.
 const LONGEST: usize = u16::MAX as usize;
 
-/// All five calls on a valid book, on its table, and on damaged copies of both.
+/// All six calls on a valid book, on its table, and on damaged copies of both.
 pub fn around(dice: &mut Dice, draft: &Draft) -> Vec<Asked> {
     let mut requests = Vec::new();
     for slice in slices(dice, draft) {
@@ -36,12 +37,13 @@ pub fn around(dice: &mut Dice, draft: &Draft) -> Vec<Asked> {
         requests.extend(removes(dice, &table, draft.flows.len()));
         let flow = newcomer(dice, draft);
         requests.extend(places_to_add(dice, &table, draft.flows.len(), &flow));
+        requests.push(Request::CheckTable { table });
     }
     requests.extend(crowded(dice));
     requests.extend(fields_to_add(dice, draft));
     requests.extend(steps_to_add(dice, draft));
     requests.extend(tight(dice, draft));
-    requests.into_iter().map(open).collect()
+    requests.into_iter().map(open).chain(figured(dice, draft)).collect()
 }
 
 /// The book, with bytes in front of it, cut, damaged, and no book at all.
@@ -94,7 +96,7 @@ fn crowded(dice: &mut Dice) -> Vec<Request> {
     requests
 }
 
-fn add(table: &Table, place: u64, record: Record, plan: [u8; PLAN_BYTES]) -> Request {
+fn add(table: &Table, place: u64, record: Record, plan: PlanBytes) -> Request {
     Request::Add { table: table.clone(), place, record, plan }
 }
 
@@ -156,7 +158,49 @@ fn tight(dice: &mut Dice, draft: &Draft) -> Vec<Request> {
     requests
 }
 
-/// Check of accepted books, as they come and with every deadline cut to its bound, from the first flow on.
+/// The calls on the table of a book with one of its figures off by one, with no figures, with small ones and with any. Only a figure of a
+/// flow and one above it says anything.
+fn figured(dice: &mut Dice, draft: &Draft) -> Vec<Asked> {
+    let (_, right) = read(&draft.bytes());
+    let calls = table_calls(dice, &right, draft);
+    let answers: Vec<u32> = calls.iter().map(|call| call.reply_of_plain().answer()).collect();
+    let mut asked = Vec::new();
+    for (l, h) in pairs(dice, draft.flows.len()) {
+        let off = off_by_one(dice, &right, l, h);
+        let says = h < l && l < draft.flows.len();
+        let wanted = |call: &Request, answer: u32| match call {
+            Request::Add { .. } | Request::Remove { .. } if says => Some(packed(BAD_FIGURE, l)),
+            Request::CheckTable { .. } if says => None,
+            _ => Some(answer),
+        };
+        let both = calls.iter().zip(&answers);
+        asked.extend(both.map(|(call, &answer)| Asked { request: call.on(&off), wanted: wanted(call, answer) }));
+    }
+    for most in [0, 2, u8::MAX] {
+        let other = refigured(dice, &right, most);
+        asked.extend(calls.iter().map(|call| open(call.on(&other))));
+    }
+    asked
+}
+
+/// Flows l and h: h above l, the same, below it, and l or both no flows of the m.
+fn pairs(dice: &mut Dice, m: usize) -> Vec<(usize, usize)> {
+    let mut pairs = Vec::new();
+    if m > 1 {
+        let l = dice.between(1, m - 1);
+        pairs.extend([(1, 0), (m - 1, m - 2), (l, dice.below(l))]);
+    }
+    if m > 0 {
+        let l = dice.below(m);
+        pairs.extend([(l, l), (l, dice.between(l, MAX_FLOWS - 1))]);
+    }
+    if m < MAX_FLOWS {
+        pairs.extend([(m, 0), (dice.between(m, MAX_FLOWS - 1), dice.below(MAX_FLOWS))]);
+    }
+    pairs
+}
+
+/// Check of accepted books and of their tables, as they come and with every deadline cut to its bound, from the first flow on.
 pub fn bounded(dice: &mut Dice, shape: &Shape) -> Vec<Asked> {
     let mut requests = Vec::new();
     for _ in 0..8 {
@@ -165,8 +209,9 @@ pub fn bounded(dice: &mut Dice, shape: &Shape) -> Vec<Asked> {
         for place in 0..draft.flows.len() {
             draft.flows[place].deadline = draft.facts().bound(place).expect("an accepted book");
         }
-        let passes = |slice| Asked { request: Request::Check { slice }, wanted: Some(packed(DONE, 0)) };
-        requests.extend([whole, draft.bytes()].map(passes));
+        let passes = |request| Asked { request, wanted: Some(packed(DONE, 0)) };
+        requests.extend([whole, draft.bytes()].map(|slice| passes(Request::Check { slice })));
+        requests.push(passes(Request::CheckTable { table: littered(dice, &draft) }));
     }
     requests
 }
@@ -180,23 +225,30 @@ pub fn aimed(dice: &mut Dice, draft: &Draft) -> Vec<Asked> {
         requests.push(Asked { request: Request::Read { slice: book.clone() }, wanted: Some(read) });
         requests.push(Asked { request: Request::Check { slice: book }, wanted: Some(answer) });
         let tested = [BAD_COUNT, BAD_ROW, BAD_RECORD, BAD_STEP].contains(&code_of(answer));
+        // No damage but to what is tested touches a row or a step, so that the figures stay right.
+        let checked = tested || [DONE, NO_BOUND].contains(&code_of(answer));
         if let Some(table) = damaged {
-            let request = table_call(dice, table, draft);
+            let mut calls = table_calls(dice, &table, draft);
+            let request = calls.swap_remove(dice.below(calls.len()));
             requests.push(Asked { request, wanted: tested.then_some(answer) });
+            requests.push(Asked { request: Request::CheckTable { table }, wanted: checked.then_some(answer) });
         }
     }
     requests
 }
 
-/// One of the calls that are handed a table.
-fn table_call(dice: &mut Dice, table: Table, draft: &Draft) -> Request {
-    let place = dice.pick(&[0, draft.flows.len() as u64, u64::MAX]);
-    match dice.below(3) {
-        0 => Request::Write { table, buffer: dice.bytes(draft.bytes().len()) },
-        1 => Request::Remove { table, place },
-        _ => {
-            let flow = newcomer(dice, draft);
-            add(&table, place, flow.record(), places(&flow.plan))
-        }
+/// Each of the calls that are handed a table, at a place among its flows and at one past them.
+fn table_calls(dice: &mut Dice, table: &Table, draft: &Draft) -> Vec<Request> {
+    let (m, flow) = (draft.flows.len(), newcomer(dice, draft));
+    let mut calls = vec![
+        Request::Write { table: table.clone(), buffer: dice.bytes(draft.bytes().len()) },
+        Request::CheckTable { table: table.clone() },
+    ];
+    for place in [dice.below(m + 1) as u64, dice.pick(&[m as u64 + 1, u64::MAX])] {
+        calls.push(add(table, place, flow.record(), places(&flow.plan)));
     }
+    for place in [dice.below(m) as u64, dice.pick(&[m as u64, u64::MAX])] {
+        calls.push(Request::Remove { table: table.clone(), place });
+    }
+    calls
 }

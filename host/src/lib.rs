@@ -16,6 +16,7 @@ pub mod draft;
 pub mod generate;
 pub mod keen;
 pub mod limits;
+pub mod memory;
 pub mod options;
 pub mod plain;
 pub mod plain_cases;
@@ -23,6 +24,8 @@ pub mod planner;
 pub mod program;
 #[cfg(proved)]
 mod proved;
+#[cfg(tables)]
+mod proved_tables;
 pub mod request;
 pub mod stack;
 pub mod tables;

@@ -23,10 +23,14 @@ impl Options {
         self.take(name, 0).is_some()
     }
 
+    pub fn name(&mut self, name: &str) -> Option<String> {
+        self.take(name, 1).map(|words| words[0].clone())
+    }
+
     pub fn number(&mut self, name: &str, otherwise: u64) -> u64 {
-        match self.take(name, 1) {
+        match self.name(name) {
             None => otherwise,
-            Some(words) => words[0].parse().unwrap_or_else(|_| refuse(&format!("{name} wants a number"))),
+            Some(word) => word.parse().unwrap_or_else(|_| refuse(&format!("{name} wants a number"))),
         }
     }
 

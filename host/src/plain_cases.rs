@@ -1,4 +1,4 @@
-//! Cases that look inside `plain`: its rules on bare facts, and its four calls on a table.
+//! Cases that look inside `plain`: its rules on bare facts, and its five calls on a table.
 
 use crate::answer::*;
 use crate::cases::same;
@@ -6,11 +6,12 @@ use crate::dice::Dice;
 use crate::draft::{book_a, book_b, Draft};
 use crate::generate::{accepted, any, regular, MIDDLE, SMALL};
 use crate::limits::*;
+use crate::memory::{figure_at, PlanBytes, Table, PLAN_BYTES};
 use crate::plain::book::Record;
 use crate::plain::rules::{by_choices, by_recursion, Matrix};
-use crate::plain::table::{add, read, remove, write, Table, PLAN_BYTES};
+use crate::plain::table::{add, check, read, remove, write};
 use crate::plain::{run, Refusal};
-use crate::tables::{littered, places};
+use crate::tables::{littered, places, refigured};
 
 pub type PlainCase = (&'static str, fn() -> Result<(), String>);
 
@@ -26,6 +27,10 @@ pub const PLAIN_CASES: &[PlainCase] = &[
     ("adding retests the flows below", adding_retests),
     ("codes of removing", codes_of_removing),
     ("removing what was added", add_then_remove),
+    ("figures of a table that was read", figures_of_both),
+    ("17 with the first flow, after 8, ahead of 14 and 15", wrong_figures),
+    ("figures that say nothing", ignored_figures),
+    ("check of a table by its figures", check_by_figures),
 ];
 
 fn interference_of_a() -> Result<(), String> {
@@ -37,12 +42,14 @@ fn interference_of_a() -> Result<(), String> {
     same("I(9,7)", facts.interference(1, 0), 2)
 }
 
+/// The bounds of the first flows, zeros elsewhere.
+fn padded(bounds: &[u16]) -> Result<[u16; MAX_FLOWS], Refusal> {
+    let mut all = [0; MAX_FLOWS];
+    all[..bounds.len()].copy_from_slice(bounds);
+    Ok(all)
+}
+
 fn bounds_of_both() -> Result<(), String> {
-    let padded = |bounds: &[u16]| {
-        let mut all = [0; MAX_FLOWS];
-        all[..bounds.len()].copy_from_slice(bounds);
-        Ok(all)
-    };
     same("A", run::check(&book_a().bytes()), padded(&[3, 7]))?;
     same("B", run::check(&book_b().bytes()), padded(&[5, 6, 7]))?;
     let mut cut = book_b();
@@ -89,12 +96,13 @@ fn round_trip() -> Result<(), String> {
         let book = draft.bytes();
         let (answer, table) = read(&book);
         same("read", answer, packed(DONE, 0))?;
-        let mut buffer = vec![0xEE; book.len() + 7];
-        let written = write(&littered(dice, &draft), &mut buffer);
-        same("write", written, packed(DONE, book.len()))?;
-        same("book", &buffer[..book.len()], &book[..])?;
-        same("bytes behind it", &buffer[book.len()..], &[0xEE; 7])?;
-        same("read again", read(&buffer[..book.len()]), (packed(DONE, 0), table))?;
+        for kept in [littered(dice, &draft), refigured(dice, &table, u8::MAX)] {
+            let mut buffer = vec![0xEE; book.len() + 7];
+            same("write", write(&kept, &mut buffer), packed(DONE, book.len()))?;
+            same("book", &buffer[..book.len()], &book[..])?;
+            same("bytes behind it", &buffer[book.len()..], &[0xEE; 7])?;
+            same("read again", read(&buffer[..book.len()]), (packed(DONE, 0), table.clone()))?;
+        }
     }
     let refused = read(&book_a().bytes()[1..]);
     same("a refused book", refused, (packed(BAD_DISTANCE, 0), Table::zeros()))
@@ -130,7 +138,7 @@ fn faulty_tables(good: &Table) -> Vec<(u32, Table)> {
     ]
 }
 
-fn newcomer(id: u16, steps: &[(u8, u8)]) -> (Record, [u8; PLAN_BYTES]) {
+fn newcomer(id: u16, steps: &[(u8, u8)]) -> (Record, PlanBytes) {
     (Record { id, phase: 0, period: 900, deadline: 900, len: steps.len() as u16 }, places(steps))
 }
 
@@ -141,7 +149,7 @@ fn codes_of_adding() -> Result<(), String> {
     same("14 ahead of 15 and 6", add(&full, 99, record, &plan), (packed(TABLE_FULL, 0), full.clone()))?;
 
     let table = littered(dice, &book_a());
-    let refused = |place: usize, (record, plan): (Record, [u8; PLAN_BYTES]), code: u32, number: usize| {
+    let refused = |place: usize, (record, plan): (Record, PlanBytes), code: u32, number: usize| {
         let wanted = (packed(code, number), table.clone());
         same(&format!("adding flow {} at {place}", record.id), add(&table, place, record, &plan), wanted)
     };
@@ -195,4 +203,58 @@ fn add_then_remove() -> Result<(), String> {
         same("add", back, (packed(DONE, 0), whole))?;
     }
     Ok(())
+}
+
+/// A table with other figures for some pairs of flows.
+fn with_figures(table: &Table, figures: &[((usize, usize), u8)]) -> Table {
+    let mut other = table.clone();
+    figures.iter().for_each(|&((l, h), figure)| other.figures[figure_at(l, h)] = figure);
+    other
+}
+
+fn figures_of_both() -> Result<(), String> {
+    for (draft, figures) in [(book_a(), &[((1, 0), 2)][..]), (book_b(), &[((1, 0), 5), ((2, 1), 1)])] {
+        same("figures", read(&draft.bytes()).1.figures, with_figures(&Table::zeros(), figures).figures)?;
+    }
+    Ok(())
+}
+
+fn wrong_figures() -> Result<(), String> {
+    let (record, plan) = newcomer(4, &[(0, 1)]);
+    let refused = |table: &Table, place: usize, answer: u32| {
+        same("add", add(table, place, record, &plan), (answer, table.clone()))?;
+        same("remove", remove(table, place), (answer, table.clone()))
+    };
+    let mut wrong = with_figures(&littered(&mut Dice::new(17), &book_b()), &[((1, 0), 4), ((2, 0), 1)]);
+    [0, 3, 99].into_iter().try_for_each(|place| refused(&wrong, place, packed(BAD_FIGURE, 1)))?;
+    wrong.steps[0] = 1;
+    refused(&wrong, 99, packed(BAD_STEP, 0))?;
+    let full = read(&regular(17, 8, MAX_FLOWS, 2).bytes()).1;
+    let last = with_figures(&full, &[((31, 30), full.figures[figure_at(31, 30)] + 1)]);
+    refused(&last, 99, packed(BAD_FIGURE, 31))
+}
+
+fn ignored_figures() -> Result<(), String> {
+    let (table, (record, plan)) = (read(&book_b().bytes()).1, newcomer(4, &[(0, 1)]));
+    for (l, h) in [(0, 0), (2, 2), (0, 1), (1, 31), (3, 0), (31, 30)] {
+        let other = with_figures(&table, &[((l, h), 1)]);
+        same("add", add(&other, 3, record, &plan), add(&table, 3, record, &plan))?;
+        same("remove", remove(&other, 1), remove(&table, 1))?;
+        same("check", check(&other), padded(&[5, 6, 7]))?;
+    }
+    same("added", add(&table, 3, record, &plan).0, packed(DONE, 0))
+}
+
+/// With 255 for I(9,7) no R up to 12 is enough; I(7,9) is not looked at.
+fn check_by_figures() -> Result<(), String> {
+    let table = littered(&mut Dice::new(18), &book_a());
+    same("right", check(&table), padded(&[3, 7]))?;
+    for (figure, wanted) in
+        [(0, padded(&[3, 3])), (1, padded(&[3, 5])), (255, Err(Refusal { code: NO_BOUND, number: 1 }))]
+    {
+        same(&format!("{figure} for 2"), check(&with_figures(&table, &[((1, 0), figure)])), wanted)?;
+    }
+    let (mut short, refusal) = (table, Refusal { code: BAD_COUNT, number: 0 });
+    short.n = 0;
+    same("3 ahead of 9", check(&short), Err(refusal))
 }

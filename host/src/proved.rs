@@ -1,4 +1,4 @@
-//! The proved library through its C interface. The only unsafe code of the host stands here and in `stack`.
+//! The proved library through its C interface. The only unsafe code of the host stands here, in `proved_tables` and in `stack`.
 #![allow(unsafe_code)]
 
 use crate::planner::Planner;
@@ -36,5 +36,10 @@ impl Planner for Proved {
     fn advance(&self, book: &[u8], area: &mut [u8], grants: &mut [u8]) -> u32 {
         let (area_at, grants_at) = (area.as_mut_ptr(), grants.as_mut_ptr());
         unsafe { slot_advance(book.as_ptr(), book.len(), area_at, area.len(), grants_at, grants.len()) }
+    }
+
+    #[cfg(tables)]
+    fn tables(&self) -> Option<&dyn crate::planner::Tables> {
+        Some(self)
     }
 }

@@ -1,43 +1,61 @@
-//! The four calls on a table, and check, as requests to the proved program `requests`, whose source says how the bytes lie, and its
-//! answers.
+//! The five calls on a table, and check of a book, as requests to the proved program `requests`, whose source says how the bytes lie, and
+//! its answers.
 
 use crate::answer::*;
 use crate::call::Kind;
 use crate::limits::*;
-use crate::plain::book::{Record, Sections};
-use crate::plain::run::check;
-use crate::plain::table::{add, read, remove, write, Table, PLAN_BYTES};
-use crate::plain::{self, Refusal};
+use crate::memory::{Newcomer, PlanBytes, Table, TABLE_BYTES};
+use crate::plain::book::Record;
+use crate::plain::table::{self, add, read, remove, write};
+use crate::plain::{self, run, Refusal};
+use crate::planner::Tables;
 use crate::tally::Answers;
 use std::fmt;
 use std::io::{self, Read};
 
 /// A bound in an answer of the program.
 const BOUND_BYTES: usize = 2;
+/// What the bytes of a table hold before a planner hands one back there.
+const UNTOUCHED: u8 = 0xEE;
 
 #[derive(Clone, Debug)]
 pub enum Request {
     Read { slice: Vec<u8> },
     Write { table: Table, buffer: Vec<u8> },
-    Add { table: Table, place: u64, record: Record, plan: [u8; PLAN_BYTES] },
+    Add { table: Table, place: u64, record: Record, plan: PlanBytes },
     Remove { table: Table, place: u64 },
     Check { slice: Vec<u8> },
+    CheckTable { table: Table },
 }
 
 const OLD_OR_NEW: [&str; 2] = ["old table", "new table"];
+const ALONE_OR_AHEAD: [&str; 2] = ["alone", "ahead of 14 or 15"];
+const RIGHT_OR_WRONG: [&str; 2] = ["right figures", "wrong figures"];
 
 /// The calls in the order of their numbers.
-pub const CALLS: [Answers; 5] = [
+pub const CALLS: [Answers; 6] = [
     Answers { call: "read", codes: &[DONE, 1, 2, 3, 4, 5, 6, 7, 8], twofold: &[] },
-    Answers { call: "write", codes: &[DONE, 3, 5, 6, 8, SHORT_MEMORY], twofold: &[] },
+    Answers { call: "write", codes: &[DONE, 3, 5, 6, 8, SHORT_MEMORY], twofold: &[(DONE, RIGHT_OR_WRONG)] },
     Answers {
         call: "add",
-        codes: &[DONE, 3, 5, BAD_RECORD, BAD_STEP, TABLE_FULL, BAD_PLACE, NO_BOUND],
-        twofold: &[(BAD_RECORD, OLD_OR_NEW), (BAD_STEP, OLD_OR_NEW)],
+        codes: &[DONE, 3, 5, BAD_RECORD, BAD_STEP, BAD_FIGURE, TABLE_FULL, BAD_PLACE, NO_BOUND],
+        twofold: &[(BAD_RECORD, OLD_OR_NEW), (BAD_STEP, OLD_OR_NEW), (BAD_FIGURE, ALONE_OR_AHEAD)],
     },
-    Answers { call: "remove", codes: &[DONE, 3, 5, 6, 8, BAD_PLACE], twofold: &[] },
+    Answers {
+        call: "remove",
+        codes: &[DONE, 3, 5, 6, 8, BAD_FIGURE, BAD_PLACE],
+        twofold: &[(BAD_FIGURE, ALONE_OR_AHEAD)],
+    },
     Kind::Check.answers(),
+    Answers {
+        call: "check of a table",
+        codes: &[DONE, 3, 5, 6, 8, NO_BOUND],
+        twofold: &[(DONE, RIGHT_OR_WRONG), (NO_BOUND, RIGHT_OR_WRONG)],
+    },
 ];
+
+/// The places of those calls that a planner may have.
+pub const OF_A_PLANNER: [usize; 3] = [0, 2, 5];
 
 /// An answer, and the memory that comes with it: the table or the bounds that a call returns, or the whole buffer that was written.
 #[derive(Clone, Debug, PartialEq, Eq)]
@@ -56,7 +74,21 @@ impl Request {
             Request::Add { .. } => 2,
             Request::Remove { .. } => 3,
             Request::Check { .. } => 4,
+            Request::CheckTable { .. } => 5,
         }
+    }
+
+    /// The same request with another table, if it hands one over.
+    pub fn on(&self, other: &Table) -> Request {
+        let mut request = self.clone();
+        match &mut request {
+            Request::Read { .. } | Request::Check { .. } => {}
+            Request::Write { table, .. }
+            | Request::Add { table, .. }
+            | Request::Remove { table, .. }
+            | Request::CheckTable { table } => table.clone_from(other),
+        }
+        request
     }
 
     pub fn bytes(&self) -> Vec<u8> {
@@ -64,19 +96,20 @@ impl Request {
         match self {
             Request::Read { slice } | Request::Check { slice } => put_part(&mut bytes, slice),
             Request::Write { table, buffer } => {
-                bytes.extend(table_bytes(table));
+                bytes.extend(table.bytes());
                 put_part(&mut bytes, buffer);
             }
             Request::Add { table, place, record, plan } => {
-                bytes.extend(table_bytes(table));
+                bytes.extend(table.bytes());
                 bytes.extend(place.to_be_bytes());
                 bytes.extend(record.bytes());
                 bytes.extend(plan);
             }
             Request::Remove { table, place } => {
-                bytes.extend(table_bytes(table));
+                bytes.extend(table.bytes());
                 bytes.extend(place.to_be_bytes());
             }
+            Request::CheckTable { table } => bytes.extend(table.bytes()),
         }
         bytes
     }
@@ -90,20 +123,28 @@ impl Request {
             3 => Request::Add {
                 table: taken_table(bytes)?,
                 place: u64::from_be_bytes(taken(bytes)?),
-                record: record_of(&taken(bytes)?),
+                record: Record::of(&taken::<RECORD_BYTES>(bytes)?),
                 plan: taken(bytes)?,
             },
             4 => Request::Remove { table: taken_table(bytes)?, place: u64::from_be_bytes(taken(bytes)?) },
             5 => Request::Check { slice: taken_part(bytes)? },
+            6 => Request::CheckTable { table: taken_table(bytes)? },
             _ => return Err(io::ErrorKind::InvalidData.into()),
         })
     }
 
     /// Which of the two reasons for a code holds of what is handed in; 0 where the code has but one. The old table is tested ahead of
-    /// the new one.
+    /// the new one, and its figures ahead of the place.
     pub fn reason(&self, code: u32) -> usize {
-        usize::from(match self {
-            Request::Add { table, .. } if [BAD_RECORD, BAD_STEP].contains(&code) => table.passes(),
+        usize::from(match (self, code) {
+            (Request::Add { table, .. }, BAD_RECORD | BAD_STEP) => table.passes(),
+            (Request::Add { table, place, .. }, BAD_FIGURE) => {
+                usize::from(table.m) == MAX_FLOWS || *place > u64::from(table.m)
+            }
+            (Request::Remove { table, place }, BAD_FIGURE) => *place >= u64::from(table.m),
+            (Request::Write { table, .. }, DONE) | (Request::CheckTable { table }, DONE | NO_BOUND) => {
+                !table.is_right()
+            }
             _ => false,
         })
     }
@@ -112,8 +153,8 @@ impl Request {
     fn memory(&self) -> usize {
         match self {
             Request::Write { buffer, .. } => buffer.len(),
-            Request::Check { .. } => BOUND_BYTES * MAX_FLOWS,
-            _ => table_bytes(&Table::zeros()).len(),
+            Request::Check { .. } | Request::CheckTable { .. } => BOUND_BYTES * MAX_FLOWS,
+            _ => TABLE_BYTES,
         }
     }
 
@@ -136,13 +177,41 @@ impl Request {
             }
             Request::Add { table, place, record, plan } => with_bytes(add(table, *place as usize, *record, plan)),
             Request::Remove { table, place } => with_bytes(remove(table, *place as usize)),
-            Request::Check { slice } => with_bounds(check(slice)),
+            Request::Check { slice } => with_bounds(run::check(slice)),
+            Request::CheckTable { table } => with_bounds(table::check(table)),
         };
-        Reply { code: code_of(answer), number: number_of(answer) as u64, memory }
+        Reply::new(answer, memory)
+    }
+
+    /// The answer of a planner, if it has the call.
+    pub fn reply_of(&self, tables: &dyn Tables) -> Option<Reply> {
+        let (mut bytes, mut bounds) = ([UNTOUCHED; TABLE_BYTES], [0; MAX_FLOWS]);
+        let answer = match self {
+            Request::Read { slice } => tables.read(slice, &mut bytes),
+            Request::Add { table, place, record, plan } => {
+                let newcomer = Newcomer { place: *place as usize, record: record.bytes(), plan: *plan };
+                tables.add(&table.bytes(), &newcomer, &mut bytes)
+            }
+            Request::CheckTable { table } => {
+                let answer = tables.check_table(&table.bytes(), &mut bounds);
+                return Some(Reply::new(answer, bound_bytes(&bounds)));
+            }
+            _ => return None,
+        };
+        Some(Reply::new(answer, bytes.to_vec()))
     }
 }
 
 impl Reply {
+    fn new(answer: u32, memory: Vec<u8>) -> Reply {
+        Reply { code: code_of(answer), number: number_of(answer) as u64, memory }
+    }
+
+    /// Code and number as one, as the calls for C answer them.
+    pub fn answer(&self) -> u32 {
+        packed(self.code, self.number as usize)
+    }
+
     pub fn bytes(&self) -> Vec<u8> {
         [&(self.code as u16).to_be_bytes(), &self.number.to_be_bytes()[..], &self.memory].concat()
     }
@@ -162,17 +231,17 @@ impl fmt::Display for Reply {
 }
 
 fn with_bytes((answer, table): (u32, Table)) -> (u32, Vec<u8>) {
-    (answer, table_bytes(&table))
+    (answer, table.bytes().to_vec())
 }
 
 /// Refused, all bounds are 0.
 fn with_bounds(checked: Result<[u16; MAX_FLOWS], Refusal>) -> (u32, Vec<u8>) {
     let bounds = checked.unwrap_or([0; MAX_FLOWS]);
-    (plain::answer(checked.map(|_| 0)), bounds.iter().flat_map(|bound| bound.to_be_bytes()).collect())
+    (plain::answer(checked.map(|_| 0)), bound_bytes(&bounds))
 }
 
-fn table_bytes(table: &Table) -> Vec<u8> {
-    [&[table.n, table.m], &table.rows[..], &table.records, &table.steps].concat()
+fn bound_bytes(bounds: &[u16; MAX_FLOWS]) -> Vec<u8> {
+    bounds.iter().flat_map(|bound| bound.to_be_bytes()).collect()
 }
 
 fn put_part(bytes: &mut Vec<u8>, part: &[u8]) {
@@ -193,10 +262,5 @@ fn taken_part(bytes: &mut impl Read) -> io::Result<Vec<u8>> {
 }
 
 fn taken_table(bytes: &mut impl Read) -> io::Result<Table> {
-    let [n, m] = taken(bytes)?;
-    Ok(Table { n, m, rows: taken(bytes)?, records: taken(bytes)?, steps: taken(bytes)? })
-}
-
-fn record_of(bytes: &[u8; RECORD_BYTES]) -> Record {
-    Sections { n: 0, m: 1, rows: &[], records: bytes, steps: &[] }.record(0)
+    Ok(Table::from_bytes(&taken(bytes)?))
 }

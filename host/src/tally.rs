@@ -25,9 +25,10 @@ impl Tally {
         Tally { rows: calls.into_iter().map(|answers| Row { answers, counts: [[0; 2]; CODES] }).collect() }
     }
 
-    /// One more answer of the call at a place in the list, for the reason at a place among the two; 0 where there is but one.
-    pub fn count(&mut self, call: usize, code: u32, reason: usize) {
-        self.rows[call].counts[code as usize][reason] += 1;
+    /// One more answer of a call, for the reason at a place among the two; 0 where there is but one.
+    pub fn count(&mut self, call: &str, code: u32, reason: usize) {
+        let row = self.rows.iter_mut().find(|row| row.answers.call == call).expect("a call of the list");
+        row.counts[code as usize][reason] += 1;
     }
 
     pub fn total(&self) -> u64 {
@@ -40,7 +41,7 @@ impl Tally {
         for row in &self.rows {
             let (call, met) = (row.answers.call, row.met());
             let told: Vec<String> = met.iter().map(|(what, count)| format!("{what}: {count}")).collect();
-            println!("  {call:7} {} calls; by code {}", row.total(), told.join(", "));
+            println!("  {call:16} {} calls; by code {}", row.total(), told.join(", "));
             missing.extend(met.iter().filter(|(_, count)| *count == 0).map(|(what, _)| format!("{call} {what}")));
         }
         if missing.is_empty() {

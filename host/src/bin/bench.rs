@@ -1,5 +1,5 @@
-//! Times the three calls of the planner under test against `keen`, on the same input in the same run, and measures the
-//! stack that they take. Prints a table of each in Markdown.
+//! Times the three calls of the planner under test, and those on a table, against `keen`, on the same input in the same run, and
+//! measures the stack that the three take. Prints a table of each in Markdown.
 //!
 //!     bench [--rounds N] [--millis N]
 
@@ -7,9 +7,11 @@ use slot_host::answer::{packed, DONE};
 use slot_host::draft::{book_a, book_b, Draft};
 use slot_host::generate::regular;
 use slot_host::limits::*;
+use slot_host::memory::{Newcomer, TableBytes, TABLE_BYTES};
 use slot_host::options::Options;
-use slot_host::planner::{self, Planner};
+use slot_host::planner::{self, Planner, Tables};
 use slot_host::stack::taken;
+use slot_host::tables::places;
 use std::hint::black_box;
 use std::time::{Duration, Instant};
 
@@ -25,25 +27,21 @@ fn main() {
     let time = Duration::from_millis(options.number("--millis", MILLIS));
     options.finish();
 
-    let (keen, other) = (planner::named("keen").expect("always built"), opponent());
+    let bench = Bench { keen: planner::named("keen").expect("always built"), other: opponent(), rounds, time };
     match std::env::var("SLOT_EMULATOR") {
         Ok(emulator) if !emulator.is_empty() => println!("Through an emulator ({emulator}): only the ratios count.\n"),
         _ => println!("No emulator in between.\n"),
     }
-    println!("| book | call | keen, calls/s | {0}, calls/s | {0} / keen |", other.name());
+    println!("| book | call | keen, calls/s | {0}, calls/s | {0} / keen |", bench.other.name());
     println!("|---|---|---:|---:|---:|");
     for (name, draft) in books() {
-        for (call, work) in [("check", check as Work), ("start", start), ("advance", advance)] {
-            let row = Row::new(keen, &draft, work);
-            let (ours, theirs, ratio) = row.measure(keen, other, rounds, time);
-            println!("| {name} | {call} | {ours:.0} | {theirs:.0} | {ratio:.2} |");
-        }
+        bench.book(&name, &draft);
     }
 
-    println!("\n| stack on the fullest book | keen, bytes | {}, bytes |", other.name());
+    println!("\n| stack on the fullest book | keen, bytes | {}, bytes |", bench.other.name());
     println!("|---|---:|---:|");
-    let row = Row::new(keen, &fullest(), check);
-    let [ours, theirs] = [keen, other].map(|planner| row.stack(planner));
+    let run = Run::new(bench.keen, &fullest());
+    let [ours, theirs] = [bench.keen, bench.other].map(|planner| run.stack(planner));
     for (k, call) in ["check", "start", "advance"].into_iter().enumerate() {
         println!("| {call} | {} | {} |", ours[k], theirs[k]);
     }
@@ -74,53 +72,116 @@ fn books() -> Vec<(String, Draft)> {
     books
 }
 
-/// Makes a number of calls on what a row holds.
-type Work = fn(&Row, &dyn Planner, usize);
+/// What is timed: so many calls.
+type Work<'a> = &'a dyn Fn(&dyn Planner, usize);
 
-/// A row of the table: a book, the run area at its start, and the call that is timed.
-struct Row {
+/// The two planners, how often each is timed, and for how long.
+struct Bench {
+    keen: &'static dyn Planner,
+    other: &'static dyn Planner,
+    rounds: usize,
+    time: Duration,
+}
+
+impl Bench {
+    /// A line for each call on a book, and for those on its table if both planners have them.
+    fn book(&self, name: &str, draft: &Draft) {
+        let run = Run::new(self.keen, draft);
+        self.line(name, "check", &|planner, calls| run.check(planner, calls));
+        self.line(name, "start", &|planner, calls| run.start(planner, calls));
+        self.line(name, "advance", &|planner, calls| run.advance(planner, calls));
+        let (Some(keen), Some(_)) = (self.keen.tables(), self.other.tables()) else {
+            return;
+        };
+        self.line(name, "read", &|planner, calls| read(&run.book, of(planner), calls));
+        let table = read_by(keen, draft);
+        self.line(name, "check of a table", &|planner, calls| check_table(&table, of(planner), calls));
+        for (call, place) in places_to_add(draft) {
+            let change = Change::new(keen, draft, place);
+            self.line(name, call, &|planner, calls| change.add(of(planner), calls));
+        }
+    }
+
+    fn line(&self, book: &str, call: &str, work: Work) {
+        let (ours, theirs, ratio) = self.measure(work);
+        println!("| {book} | {call} | {ours:.0} | {theirs:.0} | {ratio:.2} |");
+    }
+
+    /// Calls per second of both, timed in turn, and the ratio of the two in the same round. Each is the median of the
+    /// rounds, so the ratio is not the quotient of the other two.
+    fn measure(&self, work: Work) -> (f64, f64, f64) {
+        let (keen_calls, other_calls) = (self.calls_in_time(self.keen, work), self.calls_in_time(self.other, work));
+        let mut rates = Vec::new();
+        for _ in 0..self.rounds {
+            let ours = keen_calls as f64 / seconds(self.keen, work, keen_calls);
+            let theirs = other_calls as f64 / seconds(self.other, work, other_calls);
+            rates.push((ours, theirs, theirs / ours));
+        }
+        let median_of = |part: fn(&(f64, f64, f64)) -> f64| median(rates.iter().map(part).collect());
+        (median_of(|rate| rate.0), median_of(|rate| rate.1), median_of(|rate| rate.2))
+    }
+
+    /// How many calls fill the time, at least one.
+    fn calls_in_time(&self, planner: &dyn Planner, work: Work) -> usize {
+        let mut calls = 1;
+        loop {
+            let spent = seconds(planner, work, calls);
+            if spent * 4.0 > self.time.as_secs_f64() {
+                return ((calls as f64 * self.time.as_secs_f64() / spent) as usize).max(1);
+            }
+            calls *= 2;
+        }
+    }
+}
+
+fn seconds(planner: &dyn Planner, work: Work, calls: usize) -> f64 {
+    let begin = Instant::now();
+    work(planner, calls);
+    begin.elapsed().as_secs_f64()
+}
+
+fn median(mut figures: Vec<f64>) -> f64 {
+    figures.sort_by(f64::total_cmp);
+    figures[figures.len() / 2]
+}
+
+/// A book, and the run area at its start.
+struct Run {
     book: Vec<u8>,
     first: [u8; AREA_BYTES],
     flows: usize,
-    work: Work,
 }
 
-fn check(row: &Row, planner: &dyn Planner, calls: usize) {
-    for _ in 0..calls {
-        black_box(planner.check(black_box(&row.book)));
+impl Run {
+    fn new(planner: &dyn Planner, draft: &Draft) -> Run {
+        let mut run = Run { book: draft.bytes(), first: [0; AREA_BYTES], flows: draft.flows.len() };
+        assert_eq!(planner.start(&run.book, &mut run.first), packed(DONE, 0), "the book is accepted");
+        run
     }
-}
 
-fn start(row: &Row, planner: &dyn Planner, calls: usize) {
-    let mut area = row.first;
-    for _ in 0..calls {
-        black_box(planner.start(black_box(&row.book), black_box(&mut area)));
-    }
-}
-
-/// A run that moves, from its start again after every lap.
-fn advance(row: &Row, planner: &dyn Planner, calls: usize) {
-    let mut area = row.first;
-    let mut grants = vec![0; GRANT_BYTES * row.flows];
-    for call in 0..calls {
-        if call % LAP == 0 {
-            area = row.first;
+    fn check(&self, planner: &dyn Planner, calls: usize) {
+        for _ in 0..calls {
+            black_box(planner.check(black_box(&self.book)));
         }
-        black_box(planner.advance(black_box(&row.book), black_box(&mut area), black_box(&mut grants)));
-    }
-}
-
-impl Row {
-    fn new(planner: &dyn Planner, draft: &Draft, work: Work) -> Row {
-        let mut row = Row { book: draft.bytes(), first: [0; AREA_BYTES], flows: draft.flows.len(), work };
-        assert_eq!(planner.start(&row.book, &mut row.first), packed(DONE, 0), "the book is accepted");
-        row
     }
 
-    fn time(&self, planner: &dyn Planner, calls: usize) -> f64 {
-        let begin = Instant::now();
-        (self.work)(self, planner, calls);
-        begin.elapsed().as_secs_f64()
+    fn start(&self, planner: &dyn Planner, calls: usize) {
+        let mut area = self.first;
+        for _ in 0..calls {
+            black_box(planner.start(black_box(&self.book), black_box(&mut area)));
+        }
+    }
+
+    /// A run that moves, from its start again after every lap.
+    fn advance(&self, planner: &dyn Planner, calls: usize) {
+        let mut area = self.first;
+        let mut grants = vec![0; GRANT_BYTES * self.flows];
+        for call in 0..calls {
+            if call % LAP == 0 {
+                area = self.first;
+            }
+            black_box(planner.advance(black_box(&self.book), black_box(&mut area), black_box(&mut grants)));
+        }
     }
 
     /// The stack that check, start and advance take; of advance, the most over the slots of a lap.
@@ -135,35 +196,63 @@ impl Row {
         let advance = (0..LAP).map(|_| slot()).fold(0, usize::max);
         [check, start, advance]
     }
+}
 
-    /// How many calls fill the time, at least one.
-    fn calls_in(&self, planner: &dyn Planner, time: Duration) -> usize {
-        let mut calls = 1;
-        loop {
-            let spent = self.time(planner, calls);
-            if spent * 4.0 > time.as_secs_f64() {
-                return ((calls as f64 * time.as_secs_f64() / spent) as usize).max(1);
-            }
-            calls *= 2;
-        }
-    }
+fn of(planner: &dyn Planner) -> &dyn Tables {
+    planner.tables().expect("looked for before")
+}
 
-    /// Calls per second of both, timed in turn, and the ratio of the two in the same round. Each is the median of the
-    /// rounds, so the ratio is not the quotient of the other two.
-    fn measure(&self, keen: &dyn Planner, other: &dyn Planner, rounds: usize, time: Duration) -> (f64, f64, f64) {
-        let (keen_calls, other_calls) = (self.calls_in(keen, time), self.calls_in(other, time));
-        let mut rates = Vec::new();
-        for _ in 0..rounds {
-            let ours = keen_calls as f64 / self.time(keen, keen_calls);
-            let theirs = other_calls as f64 / self.time(other, other_calls);
-            rates.push((ours, theirs, theirs / ours));
-        }
-        let median_of = |part: fn(&(f64, f64, f64)) -> f64| median(rates.iter().map(part).collect());
-        (median_of(|rate| rate.0), median_of(|rate| rate.1), median_of(|rate| rate.2))
+/// The table of a book, by a planner that reads it.
+fn read_by(tables: &dyn Tables, draft: &Draft) -> TableBytes {
+    let mut table = [0; TABLE_BYTES];
+    assert_eq!(tables.read(&draft.bytes(), &mut table), packed(DONE, 0), "the book is valid");
+    table
+}
+
+fn read(book: &[u8], tables: &dyn Tables, calls: usize) {
+    let mut table = [0; TABLE_BYTES];
+    for _ in 0..calls {
+        black_box(tables.read(black_box(book), black_box(&mut table)));
     }
 }
 
-fn median(mut figures: Vec<f64>) -> f64 {
-    figures.sort_by(f64::total_cmp);
-    figures[figures.len() / 2]
+fn check_table(table: &TableBytes, tables: &dyn Tables, calls: usize) {
+    let mut bounds = [0; MAX_FLOWS];
+    for _ in 0..calls {
+        black_box(tables.check_table(black_box(table), black_box(&mut bounds)));
+    }
+}
+
+/// Where a flow of the book is taken out, to be added again: at the end and, if that is another place, in the middle.
+fn places_to_add(draft: &Draft) -> Vec<(&'static str, usize)> {
+    match draft.flows.len() {
+        0 => vec![],
+        1 => vec![("add at the end", 0)],
+        flows => vec![("add at the end", flows - 1), ("add in the middle", (flows - 1) / 2)],
+    }
+}
+
+/// A table that has lost a flow of its book, and the flow.
+struct Change {
+    table: TableBytes,
+    newcomer: Newcomer,
+}
+
+impl Change {
+    fn new(tables: &dyn Tables, draft: &Draft, place: usize) -> Change {
+        let mut rest = draft.clone();
+        let flow = rest.flows.remove(place);
+        let newcomer = Newcomer { place, record: flow.record().bytes(), plan: places(&flow.plan) };
+        let (change, mut added) = (Change { table: read_by(tables, &rest), newcomer }, [0; TABLE_BYTES]);
+        let answer = tables.add(&change.table, &change.newcomer, &mut added);
+        assert_eq!((answer, added), (packed(DONE, 0), read_by(tables, draft)), "it can be added again");
+        change
+    }
+
+    fn add(&self, tables: &dyn Tables, calls: usize) {
+        let mut added = [0; TABLE_BYTES];
+        for _ in 0..calls {
+            black_box(tables.add(black_box(&self.table), black_box(&self.newcomer), black_box(&mut added)));
+        }
+    }
 }

@@ -60,7 +60,7 @@ impl Desk {
             return Err(format!("MISMATCH\n  {a}: {ours}\n  {b}: {theirs}\n  to repeat: compare again {call}"));
         }
         let code = code_of(ours.answer);
-        self.tally.count(call.kind as usize, code, call.reason(code));
+        self.tally.count(call.kind.name(), code, call.reason(code));
         Ok(ours)
     }
 

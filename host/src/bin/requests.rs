@@ -2,6 +2,7 @@
 //! bounds among it.
 //!
 //!     requests [--calls N] [--seed S]
+//!     requests --of PLANNER ..    the same of a planner in the program's place, as far as it has the calls
 //!     requests again HEX          one request, from the words of a mismatch
 //!     requests store FOLDER       the input and the output that are kept beside the source of the proved program
 
@@ -12,14 +13,15 @@ use slot_host::dice::Dice;
 use slot_host::draft::book_a;
 use slot_host::generate::{accepted, newcomer, of_round};
 use slot_host::options::Options;
+use slot_host::planner;
 use slot_host::program;
-use slot_host::request::{Reply, Request, CALLS};
+use slot_host::request::{Reply, Request, CALLS, OF_A_PLANNER};
 use slot_host::tables::{littered, places};
 use slot_host::tally::Tally;
 use std::io::Read;
 use std::process::ExitCode;
 
-const REQUESTS: u64 = 40_000;
+const REQUESTS: u64 = 45_000;
 
 fn main() -> ExitCode {
     let mut options = Options::from_args();
@@ -29,9 +31,13 @@ fn main() -> ExitCode {
         store(options.rest())
     } else {
         let (requests, seed) = (options.number("--calls", REQUESTS), options.number("--seed", 1));
+        let of = options.name("--of");
         options.finish();
-        println!("the proved program against plain, seed {seed}");
-        compare(requests, seed)
+        println!("{} against plain, seed {seed}", of.as_deref().unwrap_or("the proved program"));
+        match of {
+            None => compare(requests, seed),
+            Some(name) => compare_planner(&name, requests, seed),
+        }
     };
     match outcome {
         Ok(()) => ExitCode::SUCCESS,
@@ -43,8 +49,33 @@ fn main() -> ExitCode {
 }
 
 fn compare(requests: u64, seed: u64) -> Result<(), String> {
+    rounds(Tally::new(CALLS), requests, seed, |tally, dice, all| {
+        ask(tally, all)?;
+        let some = dice.below(all.len());
+        endings(dice, &all[some].request)
+    })
+}
+
+/// The same with a planner of this build, as far as it has the calls.
+fn compare_planner(name: &str, requests: u64, seed: u64) -> Result<(), String> {
+    let planner = planner::named(name).ok_or("no such planner in this build")?;
+    let tables = planner.tables().ok_or("it has no calls on a table")?;
+    rounds(Tally::new(OF_A_PLANNER.map(|call| CALLS[call])), requests, seed, |tally, _, all| {
+        all.iter().try_for_each(|asked| match asked.request.reply_of(tables) {
+            Some(ours) => judge(tally, asked, &ours),
+            None => Ok(()),
+        })
+    })
+}
+
+/// As many rounds as so many requests take, each given to `ask` with the dice.
+fn rounds(
+    mut tally: Tally,
+    requests: u64,
+    seed: u64,
+    ask: impl Fn(&mut Tally, &mut Dice, &[Asked]) -> Result<(), String>,
+) -> Result<(), String> {
     let dice = &mut Dice::new(seed);
-    let mut tally = Tally::new(CALLS);
     let mut round = 0;
     while tally.total() < requests {
         let (shape, draft) = of_round(dice, round);
@@ -54,9 +85,7 @@ fn compare(requests: u64, seed: u64) -> Result<(), String> {
             let draft = accepted(dice, shape);
             all.extend(asked::aimed(dice, &draft));
         }
-        ask(&mut tally, &all).map_err(|what| format!("round {round}: {what}"))?;
-        let some = dice.below(all.len());
-        endings(dice, &all[some].request)?;
+        ask(&mut tally, dice, &all).map_err(|what| format!("round {round}: {what}"))?;
         round += 1;
     }
     tally.close()?;
@@ -67,17 +96,23 @@ fn compare(requests: u64, seed: u64) -> Result<(), String> {
 /// One run of the program over all of these requests.
 fn ask(tally: &mut Tally, all: &[Asked]) -> Result<(), String> {
     let input: Vec<u8> = all.iter().flat_map(|asked| asked.request.bytes()).collect();
-    program::run(&input, |answers| all.iter().try_for_each(|asked| judge(tally, asked, answers)))
+    program::run(&input, |answers| all.iter().try_for_each(|asked| judge(tally, asked, &next(asked, answers)?)))
 }
 
-/// The next answer has to be that of `plain`, and the one that was aimed at.
-fn judge(tally: &mut Tally, asked: &Asked, answers: &mut impl Read) -> Result<(), String> {
+fn next(asked: &Asked, answers: &mut impl Read) -> Result<Reply, String> {
+    asked.request.reply_from(answers).map_err(|what| format!("NO ANSWER: {what}{}", again_with(&asked.request)))
+}
+
+fn again_with(request: &Request) -> String {
+    format!("\n  to repeat: requests again {}", hex(&request.bytes()))
+}
+
+/// The answer has to be that of `plain`, and the one that was aimed at.
+fn judge(tally: &mut Tally, asked: &Asked, ours: &Reply) -> Result<(), String> {
     let request = &asked.request;
-    let again = || format!("\n  to repeat: requests again {}", hex(&request.bytes()));
-    let theirs = request.reply_of_plain();
-    let ours = request.reply_from(answers).map_err(|what| format!("NO ANSWER: {what}{}", again()))?;
-    if let Some(what) = ours.unlike(&theirs) {
-        return Err(format!("MISMATCH in {}, proved and plain: {what}{}", CALLS[request.call()].call, again()));
+    let (call, again) = (CALLS[request.call()].call, || again_with(request));
+    if let Some(what) = ours.unlike(&request.reply_of_plain()) {
+        return Err(format!("MISMATCH in {call}, with plain: {what}{}", again()));
     }
     if let Some(wanted) = asked.wanted {
         let (code, number) = (code_of(wanted), number_of(wanted));
@@ -85,7 +120,7 @@ fn judge(tally: &mut Tally, asked: &Asked, answers: &mut impl Read) -> Result<()
             return Err(format!("WRONG ANSWER, both, {ours} where {code} {number} was aimed at{}", again()));
         }
     }
-    tally.count(request.call(), ours.code, request.reason(ours.code));
+    tally.count(call, ours.code, request.reason(ours.code));
     Ok(())
 }
 
@@ -123,9 +158,10 @@ fn store(words: &[String]) -> Result<(), String> {
     let requests = [
         Request::Write { table: table.clone(), buffer: dice.bytes(slice.len() + 1) },
         Request::Add { table: table.clone(), place: 1, record: flow.record(), plan: places(&flow.plan) },
-        Request::Remove { table, place: 1 },
+        Request::Remove { table: table.clone(), place: 1 },
         Request::Read { slice: slice.clone() },
         Request::Check { slice },
+        Request::CheckTable { table },
     ];
     let input: Vec<u8> = requests.iter().flat_map(Request::bytes).collect();
     let output: Vec<u8> = requests.iter().flat_map(|request| request.reply_of_plain().bytes()).collect();

@@ -2,8 +2,9 @@
 
 use crate::answer::*;
 use crate::limits::*;
+use crate::memory::Table;
 
-/// A book that has passed codes 1 to 8.
+/// A book that has passed codes 1 to 8, or the used parts of a table that has passed 3, 5, 6 and 8.
 pub struct Book<'a> {
     pub rows: &'a [u8],
     pub records: &'a [u8],
@@ -27,6 +28,14 @@ impl Record {
         let wide = |k: usize| u32::from(field(k));
         Record { id: field(0), phase: wide(1), period: wide(2), deadline: wide(3), len: wide(4) }
     }
+
+    pub fn out_of_range(&self) -> bool {
+        self.id == 0
+            || self.phase > MAX_PHASE
+            || self.period.wrapping_sub(1) >= MAX_PERIOD
+            || self.deadline.wrapping_sub(1) >= self.period
+            || self.len.wrapping_sub(1) >= MAX_LEN as u32
+    }
 }
 
 pub fn bit(node: u8) -> u64 {
@@ -42,10 +51,7 @@ impl<'a> Book<'a> {
         if trailer[8..] != MARK {
             return Err(packed(NO_MARK, 0));
         }
-        let (n, m) = (usize::from(trailer[6]), usize::from(trailer[7]));
-        if n == 0 || n > MAX_NODES || m > MAX_FLOWS {
-            return Err(packed(BAD_COUNT, 0));
-        }
+        let (n, m) = test_counts(trailer[6], trailer[7])?;
         let distance = |k: usize| usize::from(u16::from_be_bytes([trailer[k], trailer[k + 1]]));
         let (to_rows, to_records, to_steps) = (distance(0), distance(2), distance(4));
         if to_rows != to_records + ROW_BYTES * n
@@ -58,12 +64,34 @@ impl<'a> Book<'a> {
         }
         let (rows, rest) = front[slice.len() - to_rows..].split_at(ROW_BYTES * n);
         let (records, steps) = rest.split_at(RECORD_BYTES * m);
+        let all = |bytes: usize| if steps.len() == bytes { Ok(steps) } else { Err(packed(BAD_LENGTHS, 0)) };
+        Book::test(n, rows, records, all)
+    }
 
+    /// Codes 3, 5, 6 and 8 on a table.
+    pub fn of_table(table: &'a Table) -> Result<Book<'a>, u32> {
+        let (n, m) = test_counts(table.n, table.m)?;
+        let (rows, records) = (&table.rows[..ROW_BYTES * n], &table.records[..RECORD_BYTES * m]);
+        Book::test(n, rows, records, |bytes| Ok(&table.steps[..bytes]))
+    }
+
+    /// Codes 5 to 8 on the sections. `steps` has those that take up so many bytes, or code 7.
+    fn test(
+        n: usize,
+        rows: &'a [u8],
+        records: &'a [u8],
+        steps: impl FnOnce(usize) -> Result<&'a [u8], u32>,
+    ) -> Result<Book<'a>, u32> {
         test_rows(rows, n)?;
-        let lens = test_records(records, steps.len())?;
-        let book = Book { rows, records, steps, lens };
+        let mut lens = [0; MAX_FLOWS];
+        let count = test_records(records, &mut lens)?;
+        let book = Book { rows, records, steps: steps(STEP_BYTES * count)?, lens };
         book.test_steps(n)?;
         Ok(book)
+    }
+
+    pub fn nodes(&self) -> usize {
+        self.rows.len() / ROW_BYTES
     }
 
     pub fn flows(&self) -> usize {
@@ -81,7 +109,7 @@ impl<'a> Book<'a> {
     }
 
     /// Each flow's plan, in flow order.
-    pub fn plans(&self) -> impl Iterator<Item = &'a [u8]> + '_ {
+    pub fn plans(&self) -> impl Iterator<Item = &'a [u8]> + Clone + '_ {
         let mut rest = self.steps;
         self.lens[..self.flows()].iter().map(move |&len| {
             let (plan, after) = rest.split_at(STEP_BYTES * usize::from(len));
@@ -97,15 +125,8 @@ impl<'a> Book<'a> {
         }
         let mut before = 0;
         for plan in self.plans() {
-            // The first step is let through as a repeat of itself.
-            let (mut last_sender, mut last_receiver) = (plan[0], plan[1]);
-            for (k, step) in plan.chunks_exact(STEP_BYTES).enumerate() {
-                let (sender, receiver) = (step[0], step[1]);
-                let goes_on = sender == last_receiver || (sender == last_sender && receiver == last_receiver);
-                if usize::from(sender.max(receiver)) >= n || sender == receiver || !goes_on {
-                    return Err(packed(BAD_STEP, before + k));
-                }
-                (last_sender, last_receiver) = (sender, receiver);
+            if let Some(k) = bad_step(plan, n) {
+                return Err(packed(BAD_STEP, before + k));
             }
             before += plan.len() / STEP_BYTES;
         }
@@ -148,6 +169,18 @@ fn receiver(step: &[u8]) -> u16 {
     both(step) >> 8
 }
 
+/// The first step of a plan that code 8 is for.
+pub fn bad_step(plan: &[u8], n: usize) -> Option<usize> {
+    // The first step is let through as a repeat of itself.
+    let (mut last_sender, mut last_receiver) = (plan[0], plan[1]);
+    plan.chunks_exact(STEP_BYTES).position(|step| {
+        let (sender, receiver) = (step[0], step[1]);
+        let goes_on = sender == last_receiver || (sender == last_sender && receiver == last_receiver);
+        (last_sender, last_receiver) = (sender, receiver);
+        usize::from(sender.max(receiver)) >= n || sender == receiver || !goes_on
+    })
+}
+
 /// 1 if the step neither repeats the last one nor starts at its receiver.
 fn breaks_off(last: &[u8], step: &[u8]) -> u16 {
     u16::from((both(step) != both(last)) & (sender(step) != receiver(last)))
@@ -155,6 +188,14 @@ fn breaks_off(last: &[u8], step: &[u8]) -> u16 {
 
 fn row_mask(row: &[u8]) -> u64 {
     row.try_into().map_or(0, u64::from_le_bytes)
+}
+
+fn test_counts(nodes: u8, flows: u8) -> Result<(usize, usize), u32> {
+    let (n, m) = (usize::from(nodes), usize::from(flows));
+    if n == 0 || n > MAX_NODES || m > MAX_FLOWS {
+        return Err(packed(BAD_COUNT, 0));
+    }
+    Ok((n, m))
 }
 
 fn test_rows(rows: &[u8], n: usize) -> Result<(), u32> {
@@ -167,33 +208,22 @@ fn test_rows(rows: &[u8], n: usize) -> Result<(), u32> {
     Ok(())
 }
 
-/// Codes 6 and 7; the plan lengths.
-fn test_records(records: &[u8], steps_bytes: usize) -> Result<[u8; MAX_FLOWS], u32> {
-    let mut lens = [0; MAX_FLOWS];
+/// Code 6; the plan lengths, and what they come to.
+fn test_records(records: &[u8], lens: &mut [u8; MAX_FLOWS]) -> Result<usize, u32> {
     let mut steps = 0;
     // Ids by their low byte: only where that was met before are the earlier ids looked through.
     let mut met = [0u64; 4];
-    for (i, (bytes, len)) in records.chunks_exact(RECORD_BYTES).zip(&mut lens).enumerate() {
+    for (i, (bytes, len)) in records.chunks_exact(RECORD_BYTES).zip(lens).enumerate() {
         let record = Record::read(bytes);
         let (word, mark) = (usize::from(record.id >> 6) % 4, 1 << (record.id % 64));
         let repeats = met[word] & mark != 0
             && records[..RECORD_BYTES * i].chunks_exact(RECORD_BYTES).any(|earlier| earlier[..2] == bytes[..2]);
         met[word] |= mark;
-        if repeats
-            || record.id == 0
-            || record.phase > MAX_PHASE
-            || record.period.wrapping_sub(1) >= MAX_PERIOD
-            || record.deadline.wrapping_sub(1) >= record.period
-            || record.len.wrapping_sub(1) >= MAX_LEN as u32
-        {
+        if repeats || record.out_of_range() {
             return Err(packed(BAD_RECORD, i));
         }
         *len = record.len as u8;
         steps += usize::from(*len);
     }
-    if steps_bytes == STEP_BYTES * steps {
-        Ok(lens)
-    } else {
-        Err(packed(BAD_LENGTHS, 0))
-    }
+    Ok(steps)
 }

@@ -102,7 +102,7 @@ fn taken(digits: &[u64; DIGITS], end: u32) -> u32 {
 /// A higher flow as the bound sees it: `reach` is what R + D − 1 may come to before one more instance counts, and `cost`
 /// what each instance adds.
 #[derive(Clone, Copy, Default)]
-struct Rival {
+pub struct Rival {
     reach: u32,
     period: u32,
     carry: u32,
@@ -111,40 +111,90 @@ struct Rival {
 
 impl Rival {
     /// Puts it before its first instance; a flow that costs nothing never comes to count.
-    fn charge(&mut self, cost: u32) {
+    pub fn charge(&mut self, cost: u32) {
         self.cost = cost;
         self.reach = if cost == 0 { u32::MAX } else { 0 };
     }
 }
 
+/// Flows let in one by one, highest priority first.
+pub struct Admission {
+    rivals: [Rival; MAX_FLOWS],
+    count: usize,
+}
+
+impl Admission {
+    pub fn new() -> Admission {
+        Admission { rivals: [Rival::default(); MAX_FLOWS], count: 0 }
+    }
+
+    /// The flows that are in, each to be charged with what it costs the next one.
+    pub fn above(&mut self) -> &mut [Rival] {
+        &mut self.rivals[..self.count]
+    }
+
+    /// The bound of the next flow, which is in from then on; none within its deadline is code 9.
+    #[inline]
+    pub fn admit(&mut self, record: Record) -> Result<u32, u32> {
+        let (l, above) = (self.count, &mut self.rivals[..self.count]);
+        let bound = bound(record, above).ok_or(packed(NO_BOUND, l))?;
+        self.rivals[l] = Rival { reach: 0, period: record.period, carry: record.deadline - 1, cost: 0 };
+        self.count += 1;
+        Ok(bound)
+    }
+}
+
+fn nodes_of(plan: &[u8]) -> u64 {
+    plan.iter().fold(0, |nodes, &node| nodes | bit(node))
+}
+
 impl Book<'_> {
     /// Code 9, or acceptance.
-    pub fn admit(&self) -> u32 {
-        let mut rivals = [Rival::default(); MAX_FLOWS];
+    pub fn admit(&self) -> Result<(), u32> {
+        let mut admission = Admission::new();
         // The nodes of the flows above.
         let mut nodes = 0;
         for (l, plan) in self.plans().enumerate() {
-            let record = self.record(l);
-            let (above, own) = rivals.split_at_mut(l);
-            if l != 0 {
-                self.weigh(plan, above, nodes);
-            }
-            if !has_bound(record, above) {
-                return packed(NO_BOUND, l);
-            }
-            own[0] = Rival { reach: 0, period: record.period, carry: record.deadline - 1, cost: 0 };
-            nodes |= plan.iter().fold(0, |nodes, &node| nodes | bit(node));
+            self.weigh(plan, self.plans(), nodes, admission.above(), Rival::charge);
+            admission.admit(self.record(l))?;
+            nodes |= nodes_of(plan);
         }
-        packed(DONE, 0)
+        Ok(())
     }
 
-    /// What each flow above costs a flow with this plan; `nodes` are theirs. As many of them as a word has room for go side
-    /// by side.
-    fn weigh(&self, plan: &[u8], above: &mut [Rival], nodes: u64) {
+    /// The figures of each flow and those above it, line by line, unless one is refused.
+    pub fn lines(&self, mut take: impl FnMut(usize, &[u8]) -> Result<(), u32>) -> Result<(), u32> {
+        let mut line = [0; MAX_FLOWS];
+        let mut nodes = 0;
+        for (l, plan) in self.plans().enumerate() {
+            self.weigh(plan, self.plans(), nodes, &mut line[..l], put);
+            take(l, &line[..l])?;
+            nodes |= nodes_of(plan);
+        }
+        Ok(())
+    }
+
+    /// The figures of a plan and the first of the plans above it, as many as there is room for.
+    pub fn line<'p>(&self, plan: &[u8], above: impl Iterator<Item = &'p [u8]> + Clone, line: &mut [u8]) {
+        let nodes = above.clone().take(line.len()).fold(0, |nodes, higher| nodes | nodes_of(higher));
+        self.weigh(plan, above, nodes, line, put);
+    }
+
+    /// What each plan above costs this one; `nodes` are theirs. As many of them as a word has room for go side by side.
+    fn weigh<'p, T>(
+        &self,
+        plan: &[u8],
+        mut plans: impl Iterator<Item = &'p [u8]>,
+        nodes: u64,
+        above: &mut [T],
+        charge: impl Fn(&mut T, u32),
+    ) {
+        if above.is_empty() {
+            return;
+        }
         let mut columns = Columns::blank();
         columns.gather(self, plan, nodes);
         let len = columns.len;
-        let mut plans = self.plans();
         for rivals in above.chunks_mut((u64::BITS / (len + 1)) as usize) {
             let (mut words, mut steps) = ([0; MAX_LEN], 0);
             let (mut ends, mut end) = (0, len);
@@ -158,14 +208,20 @@ impl Book<'_> {
             }
             let digits = worked_out(&words[..steps], ends);
             for (rival, end) in rivals.iter_mut().zip((len..).step_by(len as usize + 1)) {
-                rival.charge(taken(&digits, end));
+                charge(rival, taken(&digits, end));
             }
         }
     }
 }
 
+/// A figure is at most the length of the plan above.
+fn put(figure: &mut u8, taken: u32) {
+    *figure = taken as u8;
+}
+
 /// R rises from L, by one instance at a time, until every rival's instances are paid for or D is passed.
-fn has_bound(record: Record, rivals: &mut [Rival]) -> bool {
+#[inline]
+fn bound(record: Record, rivals: &mut [Rival]) -> Option<u32> {
     let mut bound = record.len;
     loop {
         let before = bound;
@@ -174,12 +230,12 @@ fn has_bound(record: Record, rivals: &mut [Rival]) -> bool {
                 rival.reach += rival.period;
                 bound += rival.cost;
                 if bound > record.deadline {
-                    return false;
+                    return None;
                 }
             }
         }
         if bound == before {
-            return bound <= record.deadline;
+            return (bound <= record.deadline).then_some(bound);
         }
     }
 }

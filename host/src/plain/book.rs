@@ -31,9 +31,19 @@ pub fn two_bytes(bytes: &[u8], at: usize) -> u16 {
 }
 
 impl Record {
-    pub fn bytes(&self) -> Vec<u8> {
+    /// The record at the front of these bytes.
+    pub fn of(bytes: &[u8]) -> Record {
+        let field = |k: usize| two_bytes(bytes, 2 * k);
+        Record { id: field(0), phase: field(1), period: field(2), deadline: field(3), len: field(4) }
+    }
+
+    pub fn bytes(&self) -> [u8; RECORD_BYTES] {
+        let mut bytes = [0; RECORD_BYTES];
         let fields = [self.id, self.phase, self.period, self.deadline, self.len];
-        fields.iter().flat_map(|field| field.to_be_bytes()).collect()
+        for (place, field) in bytes.chunks_mut(2).zip(fields) {
+            place.copy_from_slice(&field.to_be_bytes());
+        }
+        bytes
     }
 
     fn in_range(&self) -> bool {
@@ -51,8 +61,7 @@ impl Sections<'_> {
     }
 
     pub fn record(&self, i: usize) -> Record {
-        let field = |k: usize| two_bytes(self.records, RECORD_BYTES * i + 2 * k);
-        Record { id: field(0), phase: field(1), period: field(2), deadline: field(3), len: field(4) }
+        Record::of(&self.records[RECORD_BYTES * i..])
     }
 
     fn step(&self, k: usize) -> Transmission {

@@ -7,7 +7,10 @@ pub mod run;
 pub mod table;
 
 use crate::answer::{packed, DONE};
-use crate::planner::Planner;
+use crate::limits::MAX_FLOWS;
+use crate::memory::{Newcomer, Table, TableBytes};
+use crate::planner::{Planner, Tables};
+use book::Record;
 
 /// Why a call is refused: the code and the number that goes with it.
 #[derive(Clone, Copy, Debug, PartialEq, Eq)]
@@ -55,4 +58,30 @@ impl Planner for Plain {
     fn advance(&self, book: &[u8], area: &mut [u8], grants: &mut [u8]) -> u32 {
         answer(run::advance(book, area, grants))
     }
+
+    fn tables(&self) -> Option<&dyn Tables> {
+        Some(self)
+    }
+}
+
+impl Tables for Plain {
+    fn read(&self, book: &[u8], table: &mut TableBytes) -> u32 {
+        hand_back(table::read(book), table)
+    }
+
+    fn add(&self, table: &TableBytes, newcomer: &Newcomer, added: &mut TableBytes) -> u32 {
+        let record = Record::of(&newcomer.record);
+        hand_back(table::add(&Table::from_bytes(table), newcomer.place, record, &newcomer.plan), added)
+    }
+
+    fn check_table(&self, table: &TableBytes, bounds: &mut [u16; MAX_FLOWS]) -> u32 {
+        let checked = table::check(&Table::from_bytes(table));
+        *bounds = checked.unwrap_or([0; MAX_FLOWS]);
+        answer(checked.map(|_| 0))
+    }
+}
+
+fn hand_back((answer, table): (u32, Table), bytes: &mut TableBytes) -> u32 {
+    table.put(bytes);
+    answer
 }

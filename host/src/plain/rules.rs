@@ -1,7 +1,7 @@
 //! Conflict, interference and the response bound, by trying what the definitions speak of.
 
 use super::book::{Facts, Flow, Transmission};
-use super::{refuse_first, Refusal};
+use super::Refusal;
 use crate::answer::NO_BOUND;
 use crate::limits::MAX_FLOWS;
 
@@ -29,15 +29,22 @@ impl Facts {
         interference(&self.matrix(&self.flows[l], &self.flows[h]))
     }
 
-    /// The smallest admissible R of flow l, found by counting up from L to D.
+    /// I(l, h) for each flow h above flow l.
+    pub fn line(&self, l: usize) -> Vec<u64> {
+        (0..l).map(|h| self.interference(l, h)).collect()
+    }
+
+    /// The smallest admissible R of flow l.
     pub fn bound(&self, l: usize) -> Option<u16> {
-        let above: Vec<(u64, u64, u64)> = (0..l)
-            .map(|h| {
-                let record = self.flows[h].record;
-                (u64::from(record.deadline), u64::from(record.period), self.interference(l, h))
-            })
-            .collect();
+        self.bound_by(l, &self.line(l))
+    }
+
+    /// The smallest admissible R of flow l with these figures for I(l, h), found by counting up from L to D.
+    fn bound_by(&self, l: usize, figures: &[u64]) -> Option<u16> {
         let own = self.flows[l].record;
+        let above = self.flows.iter().zip(figures);
+        let above: Vec<(u64, u64, u64)> =
+            above.map(|(flow, &i)| (u64::from(flow.record.deadline), u64::from(flow.record.period), i)).collect();
         (own.len..=own.deadline).find(|&r| {
             let r = u64::from(r);
             let waits: u64 = above.iter().map(|&(d, p, i)| (r + d - 1).div_ceil(p) * i).sum();
@@ -45,13 +52,15 @@ impl Facts {
         })
     }
 
-    /// The bound of each flow, zeros at the other places; code 9 for the first flow without one.
     pub fn bounds(&self) -> Result<[u16; MAX_FLOWS], Refusal> {
-        let found: Vec<Option<u16>> = (0..self.flows.len()).map(|l| self.bound(l)).collect();
-        refuse_first(NO_BOUND, found.len(), |l| found[l].is_none())?;
+        self.bounds_by(|l| self.line(l))
+    }
+
+    /// The bound of each flow with these figures, zeros at the other places; code 9 for the first flow without one.
+    pub fn bounds_by(&self, line: impl Fn(usize) -> Vec<u64>) -> Result<[u16; MAX_FLOWS], Refusal> {
         let mut bounds = [0; MAX_FLOWS];
-        for (place, bound) in found.into_iter().flatten().enumerate() {
-            bounds[place] = bound;
+        for l in 0..self.flows.len() {
+            bounds[l] = self.bound_by(l, &line(l)).ok_or(Refusal { code: NO_BOUND, number: l })?;
         }
         Ok(bounds)
     }

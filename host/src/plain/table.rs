@@ -1,39 +1,30 @@
-//! The four calls on a table in memory: read, write, add, remove.
+//! The five calls on a table in memory: read, write, add, remove, check.
 
 use super::book::{open, test_counts, Record, Sections};
-use super::{refuse_if, Refusal};
+use super::{refuse_first, refuse_if, Refusal};
 use crate::answer::*;
 use crate::limits::*;
-
-const TABLE_ROWS: usize = ROW_BYTES * MAX_NODES;
-const TABLE_RECORDS: usize = RECORD_BYTES * MAX_FLOWS;
-const TABLE_STEPS: usize = STEP_BYTES * MAX_LEN * MAX_FLOWS;
-/// The step places handed in with a flow; those past its L are ignored.
-pub const PLAN_BYTES: usize = STEP_BYTES * MAX_LEN;
-
-/// The book's sections in places of fixed size. What stands in unused places says nothing.
-#[derive(Clone, Debug, PartialEq, Eq)]
-pub struct Table {
-    pub n: u8,
-    pub m: u8,
-    pub rows: [u8; TABLE_ROWS],
-    pub records: [u8; TABLE_RECORDS],
-    pub steps: [u8; TABLE_STEPS],
-}
+use crate::memory::{figure_at, PlanBytes, Table};
 
 impl Table {
-    pub fn zeros() -> Table {
-        Table { n: 0, m: 0, rows: [0; TABLE_ROWS], records: [0; TABLE_RECORDS], steps: [0; TABLE_STEPS] }
-    }
-
     pub fn sections(&self) -> Sections<'_> {
         let (n, m) = (usize::from(self.n), usize::from(self.m));
         Sections { n, m, rows: &self.rows, records: &self.records, steps: &self.steps }
     }
 
+    /// The figures of the flows above flow l, as they stand.
+    fn line(&self, l: usize) -> Vec<u64> {
+        (0..l).map(|h| u64::from(self.figures[figure_at(l, h)])).collect()
+    }
+
     /// Whether none of codes 3, 5, 6 and 8 is given for it.
     pub fn passes(&self) -> bool {
         self.test().is_ok()
+    }
+
+    /// Whether code 17 is not given for it either.
+    pub fn is_right(&self) -> bool {
+        self.test_with_figures().is_ok()
     }
 
     /// Codes 3, 5, 6 and 8; the used parts of a table that passes.
@@ -44,6 +35,30 @@ impl Table {
         sections.test_records()?;
         sections.test_steps()?;
         Ok(Used::of(&sections))
+    }
+
+    /// The same, then code 17: the first flow with a wrong figure.
+    fn test_with_figures(&self) -> Result<Used, Refusal> {
+        let used = self.test()?;
+        let facts = self.sections().facts();
+        refuse_first(BAD_FIGURE, facts.flows.len(), |l| self.line(l) != facts.line(l))?;
+        Ok(used)
+    }
+
+    /// The figures of a table that passes the tests put right, and zero at all other places.
+    pub fn put_right(&mut self) {
+        let facts = self.sections().facts();
+        self.figures.fill(0);
+        for l in 0..facts.flows.len() {
+            for (h, figure) in facts.line(l).into_iter().enumerate() {
+                self.figures[figure_at(l, h)] = figure as u8;
+            }
+        }
+    }
+
+    /// Code 9, or the bounds, by the figures as they stand.
+    fn bounds(&self) -> Result<[u16; MAX_FLOWS], Refusal> {
+        self.sections().facts().bounds_by(|l| self.line(l))
     }
 }
 
@@ -70,8 +85,15 @@ impl Used {
         self.records.iter().flat_map(|record| record.bytes()).collect()
     }
 
-    /// The table that says the same, zero in every unused place.
+    /// The table that says the same, zero in every unused place, its figures right.
     fn table(&self) -> Table {
+        let mut table = self.bare_table();
+        table.put_right();
+        table
+    }
+
+    /// The same without its figures.
+    fn bare_table(&self) -> Table {
         let mut table = Table::zeros();
         table.n = self.n as u8;
         table.m = self.records.len() as u8;
@@ -115,14 +137,20 @@ pub fn write(table: &Table, buffer: &mut [u8]) -> u32 {
     }))
 }
 
-/// Codes 3, 5, 6, 8 on the old table; 14; 15; 6 and 8 on the new one; 9 on the new one.
-pub fn add(table: &Table, place: usize, record: Record, plan: &[u8; PLAN_BYTES]) -> (u32, Table) {
+/// Codes 3, 5, 6, 8 and 17 on the old table; 14; 15; 6 and 8 on the new one; 9 on the new one.
+pub fn add(table: &Table, place: usize, record: Record, plan: &PlanBytes) -> (u32, Table) {
     changed(table, added(table, place, record, plan))
 }
 
-/// Codes 3, 5, 6, 8; 15.
+/// Codes 3, 5, 6, 8, 17; 15.
 pub fn remove(table: &Table, place: usize) -> (u32, Table) {
     changed(table, removed(table, place))
+}
+
+/// Codes 3, 5, 6, 8; 9 by the figures as they stand; the bounds of the m flows, zeros elsewhere.
+pub fn check(table: &Table) -> Result<[u16; MAX_FLOWS], Refusal> {
+    table.test()?;
+    table.bounds()
 }
 
 /// The answer with the new table, or with the table as it was handed in.
@@ -133,8 +161,8 @@ fn changed(table: &Table, outcome: Result<Table, Refusal>) -> (u32, Table) {
     }
 }
 
-fn added(table: &Table, place: usize, record: Record, plan: &[u8; PLAN_BYTES]) -> Result<Table, Refusal> {
-    let mut used = table.test()?;
+fn added(table: &Table, place: usize, record: Record, plan: &PlanBytes) -> Result<Table, Refusal> {
+    let mut used = table.test_with_figures()?;
     let m = used.records.len();
     refuse_if(m == MAX_FLOWS, TABLE_FULL)?;
     refuse_if(place > m, BAD_PLACE)?;
@@ -145,14 +173,15 @@ fn added(table: &Table, place: usize, record: Record, plan: &[u8; PLAN_BYTES]) -
     Sections { n: used.n, m: m + 1, rows: &used.rows, records: &records, steps: &[] }.test_records()?;
     used.plans.insert(place, plan[..STEP_BYTES * usize::from(record.len)].to_vec());
 
-    let new = used.table();
+    let mut new = used.bare_table();
     new.test()?;
-    new.sections().facts().bounds()?;
+    new.put_right();
+    new.bounds()?;
     Ok(new)
 }
 
 fn removed(table: &Table, place: usize) -> Result<Table, Refusal> {
-    let mut used = table.test()?;
+    let mut used = table.test_with_figures()?;
     refuse_if(place >= used.records.len(), BAD_PLACE)?;
     used.records.remove(place);
     used.plans.remove(place);

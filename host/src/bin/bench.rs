@@ -2,6 +2,8 @@
 //! measures the stack that the three take. Prints a table of each in Markdown.
 //!
 //!     bench [--rounds N] [--millis N]
+//!     bench rows                           the rows of the first table: book, its name and the call, a tab in between
+//!     bench calls BOOK CALL PLANNER N      makes so many calls of one row, for `host/count.sh` to count their instructions
 
 use slot_host::answer::{packed, DONE};
 use slot_host::draft::{book_a, book_b, Draft};
@@ -23,11 +25,18 @@ const LAP: usize = 2_048;
 
 fn main() {
     let mut options = Options::from_args();
+    if options.word("rows") {
+        options.finish();
+        return print_rows();
+    }
+    if options.word("calls") {
+        return make_calls(options.rest());
+    }
     let rounds = options.number("--rounds", ROUNDS) as usize;
     let time = Duration::from_millis(options.number("--millis", MILLIS));
     options.finish();
 
-    let bench = Bench { keen: planner::named("keen").expect("always built"), other: opponent(), rounds, time };
+    let bench = Bench { keen: keen(), other: opponent(), rounds, time };
     match std::env::var("SLOT_EMULATOR") {
         Ok(emulator) if !emulator.is_empty() => println!("Through an emulator ({emulator}): only the ratios count.\n"),
         _ => println!("No emulator in between.\n"),
@@ -35,7 +44,7 @@ fn main() {
     println!("| book | call | keen, calls/s | {0}, calls/s | {0} / keen |", bench.other.name());
     println!("|---|---|---:|---:|---:|");
     for (name, draft) in books() {
-        bench.book(&name, &draft);
+        visit(&draft, &mut |call, work| bench.line(&name, call, work));
     }
 
     println!("\n| stack on the fullest book | keen, bytes | {}, bytes |", bench.other.name());
@@ -45,6 +54,28 @@ fn main() {
     for (k, call) in ["check", "start", "advance"].into_iter().enumerate() {
         println!("| {call} | {} | {} |", ours[k], theirs[k]);
     }
+}
+
+fn print_rows() {
+    for (book, (name, draft)) in books().iter().enumerate() {
+        visit(draft, &mut |call, _| println!("{book}\t{name}\t{call}"));
+    }
+}
+
+fn make_calls(words: &[String]) {
+    let [book, wanted, planner, calls] = words else { panic!("bench calls BOOK CALL PLANNER N") };
+    let book: usize = book.parse().expect("the number of a book");
+    let calls = calls.parse().expect("a number of calls");
+    let planner = planner::named(planner).expect("a planner of this build");
+    visit(&books()[book].1, &mut |call, work| {
+        if call == wanted {
+            work(planner, calls);
+        }
+    });
+}
+
+fn keen() -> &'static dyn Planner {
+    planner::named("keen").expect("always built")
 }
 
 /// The proved library, or `plain` in a build without it.
@@ -84,24 +115,6 @@ struct Bench {
 }
 
 impl Bench {
-    /// A line for each call on a book, and for those on its table if both planners have them.
-    fn book(&self, name: &str, draft: &Draft) {
-        let run = Run::new(self.keen, draft);
-        self.line(name, "check", &|planner, calls| run.check(planner, calls));
-        self.line(name, "start", &|planner, calls| run.start(planner, calls));
-        self.line(name, "advance", &|planner, calls| run.advance(planner, calls));
-        let (Some(keen), Some(_)) = (self.keen.tables(), self.other.tables()) else {
-            return;
-        };
-        self.line(name, "read", &|planner, calls| read(&run.book, of(planner), calls));
-        let table = read_by(keen, draft);
-        self.line(name, "check of a table", &|planner, calls| check_table(&table, of(planner), calls));
-        for (call, place) in places_to_add(draft) {
-            let change = Change::new(keen, draft, place);
-            self.line(name, call, &|planner, calls| change.add(of(planner), calls));
-        }
-    }
-
     fn line(&self, book: &str, call: &str, work: Work) {
         let (ours, theirs, ratio) = self.measure(work);
         println!("| {book} | {call} | {ours:.0} | {theirs:.0} | {ratio:.2} |");
@@ -131,6 +144,24 @@ impl Bench {
             }
             calls *= 2;
         }
+    }
+}
+
+/// Each call on a book, and those on its table if both planners have them.
+fn visit(draft: &Draft, row: &mut dyn FnMut(&str, Work)) {
+    let run = Run::new(keen(), draft);
+    row("check", &|planner, calls| run.check(planner, calls));
+    row("start", &|planner, calls| run.start(planner, calls));
+    row("advance", &|planner, calls| run.advance(planner, calls));
+    let (Some(tables), Some(_)) = (keen().tables(), opponent().tables()) else {
+        return;
+    };
+    row("read", &|planner, calls| read(&run.book, of(planner), calls));
+    let table = read_by(tables, draft);
+    row("check of a table", &|planner, calls| check_table(&table, of(planner), calls));
+    for (call, place) in places_to_add(draft) {
+        let change = Change::new(tables, draft, place);
+        row(call, &|planner, calls| change.add(of(planner), calls));
     }
 }
 

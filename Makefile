@@ -1,5 +1,5 @@
 # The commands of a newcomer: `make list` shows what the planner does, `make test` is the gate.
-.PHONY: list test bench fmt
+.PHONY: list test bench count fmt
 
 BOOK = examples/a.book
 
@@ -18,6 +18,12 @@ bench:
 	host/build.sh target/staticlib/libradio.a target/host target/staticlib/libtables.a
 	host/run.sh bench
 	host/stack.sh
+
+# Instructions of each call, beside those of the same planner in Rust.
+count:
+	host/archives.sh
+	host/build.sh target/staticlib/libradio.a target/host target/staticlib/libtables.a
+	host/count.sh
 
 fmt:
 	rt fmt

@@ -1,6 +1,6 @@
 -- A bound falls, or stays, where a term of its sum does: where a flow above has a longer period, a shorter carry-in or a smaller
 -- cost, by any measure. Leans on SmallestLaws. Assumes nothing.
-use Prim.Native.Nat.{ℕ, suc, _*_, _≤_, _<_}
+use Prim.Native.Nat.{ℕ, zero, suc, _*_, _≤_, _<_}
 use mathlib.Core.Path.{_≡_, refl}
 use mathlib.Core.Bool.{Bool, true, _&&_}
 use mathlib.Core.Logic.{⊎-elim}
@@ -10,7 +10,8 @@ use lib.Dec.{leb}
 use borrow.Author.Tests.{leb-true, le-leb}
 use Rattle.trade.specs.First.{first}
 use Rattle.trade.specs.Facts.{Facts}
-use Rattle.trade.specs.Bound.{Measure, instances, slotsNeeded, boundBy}
+use Rattle.trade.specs.Bound.{Measure, instances, slotsNeeded, boundBy, fairly}
+use Rattle.trade.proofs.Fair.{fair-carry}
 use Rattle.trade.proofs.First.{not-both, and-true, lt-or-ge, first-within, first-before, first-holds}
 use Rattle.trade.proofs.Sums.{sum-mono}
 use Rattle.bounds.specs.Terms.{smallestIn}
@@ -88,3 +89,26 @@ carry-mono f cost carry other l period carries =
       carries = carries;
       costs = λ h b. omega arith;
     })
+
+-- THE FAIR COUNT: where the deadline count gives every flow above a bound, no bound rises
+module _ (f : Facts) (cost : ℕ → ℕ → ℕ) (periods : (h : ℕ) → h < f .flows → 1 ≤ f .period h) where
+  abbrev deadlines : Measure
+  deadlines = record { cost = cost; carry = f .deadline }
+
+  fair-below :
+      (n l : ℕ)
+      → l < n
+      → l < f .flows
+      → ((h : ℕ) → h < l → boundBy f deadlines h ≤ f .deadline h)
+      → boundBy f (fairly f cost) l ≤ boundBy f deadlines l
+  fair-below zero l b p has = absurd (omega arith)
+  fair-below (suc n) l b p has =
+      carry-mono f cost (fairly f cost .carry) (f .deadline) l (λ h q. periods h (omega arith))
+      (λ h q. omega (arith, fair-carry f cost h, fair-below n h (omega arith) (omega arith) (λ k r. has k (omega arith)), has h q))
+
+  pub fair-lower : (l : ℕ) → l < f .flows → ((h : ℕ) → h < l → boundBy f deadlines h ≤ f .deadline h) → boundBy f (fairly f cost) l ≤ boundBy f deadlines l
+  fair-lower l p has = fair-below (suc l) l (omega arith) p has
+
+  -- so what it accepts is accepted
+  pub fair-accepts : ((l : ℕ) → l < f .flows → boundBy f deadlines l ≤ f .deadline l) → (l : ℕ) → l < f .flows → boundBy f (fairly f cost) l ≤ f .deadline l
+  fair-accepts has l p = omega (arith, fair-lower l p (λ h q. has h (omega arith)), has l p)

@@ -61,7 +61,7 @@ fn bound_at(
     )
 }
 
-// The bounds of all flows, or code 9 at the first flow that has none. The carry-in of a flow is its deadline.
+// The bounds of all flows, or code 9 at the first flow that has none. The carry-in of a flow is its bound.
 pub fn bounds_of(flows: usize, rows: &[u8], records: &[u8], steps: &[u8]) -> Checked
     requires { ⌜ Formed flows (now rows) (now records) (now steps) ⌝ }
     ensures { λ r. ⌜ r ≡ boundedBy (factsIn 0 flows (now (rows .entry)) (now (records .entry)) (now (steps .entry))) ⌝ }
@@ -70,17 +70,15 @@ pub fn bounds_of(flows: usize, rows: &[u8], records: &[u8], steps: &[u8]) -> Che
     hear_above(flows, rows, records, steps, &mut heard);
     let mut bounds = [0u16; Flow::MOST];
     let mut periods = [0u16; Flow::MOST];
-    let mut carries = [0u16; Flow::MOST];
     let mut l = 0;
     while l < flows {
         let flow = record_at(records, l);
-        let bound = bound_at(rows, &heard, records, steps, l, &periods, &carries);
+        let bound = bound_at(rows, &heard, records, steps, l, &periods, &bounds);
         if (flow.deadline as u32) < bound {
             return refused(Answer::refused(9, l as u64));
         }
         bounds[l] = bound as u16;
         periods[l] = flow.period;
-        carries[l] = flow.deadline;
         l += 1;
     }
     Checked {

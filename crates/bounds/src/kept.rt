@@ -6,7 +6,7 @@ ghost use lib.ListN.{length, getD};
 ghost use Rattle.trade.specs.Limits.{mostPeriod};
 ghost use Rattle.trade.specs.Layout.{field};
 ghost use Rattle.trade.specs.Facts.{factsIn};
-ghost use Rattle.trade.specs.Bound.{boundBy};
+ghost use Rattle.trade.specs.Bound.{boundBy, fairly};
 ghost use Rattle.trade.specs.Kept.{figuresRoom, figureIn};
 ghost use Rattle.bounds.specs.Bounds.{Timed, byFigures, boundedIn};
 use crate::bounds::Checked;
@@ -42,24 +42,22 @@ fn kept_bound(
     )
 }
 
-// The bounds of all flows by the figures as they stand, or code 9 at the first flow that has none. The carry-in of a flow is its deadline.
+// The bounds of all flows by the figures as they stand, or code 9 at the first flow that has none. The carry-in of a flow is its bound.
 pub fn bounds_kept(flows: usize, records: &[u8], figures: &[u8]) -> Checked
     requires { ⌜ Timed flows (now records) × (length (now figures) ≡ figuresRoom) ⌝ }
-    ensures { λ r. ⌜ r ≡ boundedIn (factsIn 0 flows [] (now (records .entry)) []) (byFigures (now (figures .entry)) (λ h. field (now (records .entry)) h 3)) ⌝ }
+    ensures { λ r. ⌜ r ≡ boundedIn (factsIn 0 flows [] (now (records .entry)) []) (fairly (factsIn 0 flows [] (now (records .entry)) []) (figureIn (now (figures .entry)))) ⌝ }
 {
     let mut bounds = [0u16; Flow::MOST];
     let mut periods = [0u16; Flow::MOST];
-    let mut carries = [0u16; Flow::MOST];
     let mut l = 0;
     while l < flows {
         let flow = record_at(records, l);
-        let bound = kept_bound(figures, records, l, &periods, &carries);
+        let bound = kept_bound(figures, records, l, &periods, &bounds);
         if (flow.deadline as u32) < bound {
             return refused(Answer::refused(9, l as u64));
         }
         bounds[l] = bound as u16;
         periods[l] = flow.period;
-        carries[l] = flow.deadline;
         l += 1;
     }
     Checked {

@@ -45,7 +45,7 @@ bound-A : bound (said bookA) 0 ≡ 3
 bound-A =
     sym (reported-bound measure bookA accepts-A 0 (omega (arith, flows-A))) ∙ ap (λ (c : Checked). getD (c .bounds) 0 0) (cases-hold .case3)
 
-bound-A-below : bound (said bookA) 1 ≡ 7
+bound-A-below : bound (said bookA) 1 ≡ 5
 bound-A-below =
     sym (reported-bound measure bookA accepts-A 1 (omega (arith, flows-A))) ∙ ap (λ (c : Checked). getD (c .bounds) 1 0) (cases-hold .case3)
 

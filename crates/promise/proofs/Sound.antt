@@ -1,9 +1,12 @@
 -- What a measure and a rule of waiting owe each other, so that the program by them keeps demand 3; and that interference with the
--- deadlines and the greedy rule have it. Assumes nothing.
+-- bounds and the greedy rule have it. Assumes nothing.
 use Prim.Native.Nat.{ℕ, _≤_}
+use native.Mathlib.Omega.{arith}
 use Rattle.trade.specs.Facts.{Facts}
+use Rattle.trade.specs.Interference.{interference}
 use Rattle.trade.specs.Bound.{Measure, measure, boundBy}
 use Rattle.trade.specs.Slot.{Waits, greedy}
+use Rattle.trade.proofs.Fair.{fair-carry}
 use Rattle.trade.proofs.Slot.{Refuses, greedy-refuses}
 use Rattle.trade.proofs.Prefix.{Local, greedy-local}
 use Rattle.response.specs.Promise.{Covers}
@@ -23,8 +26,8 @@ pub record Sound (measured : Facts → Measure) (waits : Waits) : Type 0 where
 pub greedy-sound : Sound measure greedy
 greedy-sound =
     record {
-      covers = λ f. greedy-covers f (f .deadline);
-      carries = λ f l h. h;
+      covers = λ f. greedy-covers f (measure f .carry);
+      carries = λ f l h. omega (arith, fair-carry f (interference f) l);
       refuses = greedy-refuses;
       local = greedy-local;
     }

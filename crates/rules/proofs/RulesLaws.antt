@@ -9,10 +9,10 @@ use lib.ListN.{length, take, drop, drop-of-length-le}
 use lib.Seq.{take-all}
 use borrow.Author.Tests.{eqb-false, ltb-false, leb-false}
 use Rattle.trade.specs.Limits.{mostFlows}
-use Rattle.trade.specs.Layout.{Sections, field}
+use Rattle.trade.specs.Layout.{Sections}
 use Rattle.trade.specs.Facts.{Facts, factsOf, factsIn}
-use Rattle.trade.specs.Bound.{measure, code9, code9By}
-use Rattle.trade.specs.Kept.{Tabled, RightFigures, figuresOf, code17, keptMeasure}
+use Rattle.trade.specs.Bound.{fairly, measure, code9, code9By}
+use Rattle.trade.specs.Kept.{Tabled, RightFigures, figureIn, figuresOf, code17, keptMeasure}
 use Rattle.trade.specs.Answers.{isDone, givenFirst, firstOf, on, noNumber}
 use Rattle.trade.specs.Codes.{code6, code8, code14, code15Adding, code15Removing}
 use Rattle.trade.specs.Calls.{Adding, Removing, tableRules, oldRules, withFlow, enterRules, newRules, addAnswer, leaveRules, removeAnswer}
@@ -20,7 +20,7 @@ use Rattle.trade.specs.declared.answer.Answer.{Answer}
 use Rattle.trade.proofs.Answers.{done-first, refused-second, Passed, passed-head, passed-tail, passed-first, passed-others, passed-look, firstOf-passed, given-passed, given-passes, firstOf-pass, firstOf-last, append-refused, append-passed, firstOf-look, firstOf-on}
 use Rattle.trade.proofs.Alike.{alike-self, code9-alike}
 use Rattle.trade.proofs.Kept.{figures-at, interference-counted, passed-right, right-measure}
-use Rattle.bounds.specs.Bounds.{boundedIn, byFigures}
+use Rattle.bounds.specs.Bounds.{boundedIn}
 use Rattle.bounds.specs.declared.bounds.Checked.{Checked}
 use Rattle.table.proofs.CheckedLaws.{records-alone}
 use Rattle.rules.specs.Rules.{oldThen}
@@ -148,7 +148,7 @@ pub kept-nine :
     (t : Sections) (figures : List ℕ)
     → t .flows ≤ mostFlows
     → figures ≡ figuresOf (factsIn 0 (t .flows) (t .rows) (t .records) (t .steps))
-    → boundedIn (factsIn 0 (t .flows) [] (t .records) []) (byFigures figures (λ h. field (t .records) h 3)) .answer ≡ code9 (factsOf t)
+    → boundedIn (factsIn 0 (t .flows) [] (t .records) []) (fairly (factsIn 0 (t .flows) [] (t .records) []) (figureIn figures)) .answer ≡ code9 (factsOf t)
 unfolding boundedIn
 kept-nine t figures m e =
     let u : Tabled = record { sections = t; figures = figures } in

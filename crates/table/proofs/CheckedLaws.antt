@@ -3,21 +3,24 @@ use Prim.Native.Nat.{ℕ}
 use mathlib.Core.Path.{_≡_, refl, sym, _∙_, ap}
 use mathlib.Core.List.{List, []}
 use borrow.Author.Tests.{ne-eqb}
-use Rattle.trade.specs.Layout.{Sections, field}
-use Rattle.trade.specs.Facts.{factsIn, factsOf}
+use Rattle.trade.specs.Layout.{Sections}
+use Rattle.trade.specs.Facts.{Facts, factsIn, factsOf}
 use Rattle.trade.specs.Table.{InMemory}
-use Rattle.trade.specs.Kept.{Tabled, keptMeasure}
+use Rattle.trade.specs.Kept.{Tabled, figureIn, keptMeasure}
 use Rattle.trade.specs.Answers.{isDone, firstOf, on, noNumber}
-use Rattle.trade.specs.Bound.{slotsNeeded, admissible, boundBy, boundlessBy, code9By}
-use Rattle.trade.specs.Calls.{Checked, tableRules, boundsBy, keptRules, checkKeptOf}
+use Rattle.trade.specs.Bound.{fairly}
+use Rattle.trade.specs.Calls.{Checked, tableRules, keptRules, checkKeptOf}
 use Rattle.trade.specs.declared.answer.Answer.{Answer}
 use Rattle.trade.proofs.Answers.{Passed, passed-head, passed-tail, firstOf-passed, append-refused, firstOf-look}
+use Rattle.trade.proofs.Alike.{SameTimes}
+use Rattle.trade.proofs.Fair.{fair-same}
 use Rattle.trade.proofs.Valid.{table-valid}
 use Rattle.trade.proofs.Used.{roomy, in-memory-holds}
 use Rattle.trade.proofs.RoundTrip.{kept-nine}
 use Rattle.sections.specs.Formed.{Formed}
 use Rattle.sections.proofs.FormedLaws.{formed-by}
-use Rattle.bounds.specs.Bounds.{refusedBy, boundedIn, byFigures, Timed}
+use Rattle.bounds.specs.Bounds.{refusedBy, boundedIn, Timed}
+use Rattle.bounds.proofs.BoundsLaws.{bounded-times}
 use Rattle.table.specs.Table.{ChecksKept}
 
 -- a table in memory that passes is formed
@@ -35,10 +38,16 @@ formed-timed k rows records steps f = record { most = f .most; recorded = f .rec
 -- code 9 and the bounds by kept figures read the records alone
 pub records-alone :
     (t : Tabled)
-    → boundedIn (factsIn 0 (t .sections .flows) [] (t .sections .records) []) (byFigures (t .figures) (λ h. field (t .sections .records) h 3))
+    → boundedIn (factsIn 0 (t .sections .flows) [] (t .sections .records) []) (fairly (factsIn 0 (t .sections .flows) [] (t .sections .records) []) (figureIn (t .figures)))
     ≡ boundedIn (factsOf (t .sections)) (keptMeasure t)
-unfolding boundedIn code9By boundsBy boundlessBy boundBy admissible slotsNeeded factsOf
-records-alone t = refl
+unfolding factsOf
+records-alone t =
+    let f : Facts = factsIn 0 (t .sections .flows) [] (t .sections .records) [] in
+    bounded-times f (factsOf (t .sections)) refl times (fairly f (figureIn (t .figures))) (keptMeasure t)
+    (fair-same (t .sections .flows) f (factsOf (t .sections)) times (figureIn (t .figures)) (figureIn (t .figures)) (λ l h p q. refl))
+  where
+    times : SameTimes (t .sections .flows) (factsIn 0 (t .sections .flows) [] (t .sections .records) []) (factsOf (t .sections))
+    times = record { len = λ i h. refl; period = λ i h. refl; deadline = λ i h. refl }
 
 -- refused by its form, or what code 9 and the bounds come to
 pub checks-refused : (t : Tabled) → (firstOf tableRules noNumber (t .sections) .code ≡ 0 → ⊥) → ChecksKept t (refusedBy (firstOf tableRules noNumber (t .sections)))

@@ -13,7 +13,7 @@ use Rattle.trade.specs.Bytes.{padded}
 use Rattle.trade.specs.Facts.{Facts, factsOf, factsIn, firstStep, stepOf}
 use Rattle.trade.specs.Conflict.{conflict}
 use Rattle.trade.specs.Interference.{matrix, worstPath, interference}
-use Rattle.trade.specs.Bound.{Measure, byInterference, measure, slotsNeeded, admissible, boundBy, boundlessBy, acceptedBy, code9By}
+use Rattle.trade.specs.Bound.{Measure, byInterference, byDeadline, slotsNeeded, admissible, boundBy, boundlessBy, acceptedBy, code9By}
 use Rattle.trade.specs.Calls.{boundsBy}
 use Rattle.trade.proofs.First.{first-cong, some-cong}
 use Rattle.trade.proofs.Sums.{sum-cong, listTo-same}
@@ -32,6 +32,18 @@ pub record Alike (k : ℕ) (f g : Facts) : Type 0 where
   pub steps : (i j : ℕ) → i < k → j < f .len i → stepOf f i j ≡ stepOf g i j
   pub conflicts :
       (l h i j : ℕ) → l < k → h < k → i < f .len l → j < f .len h → matrix f l h i j ≡ matrix g l h i j
+
+-- the first k flows have the same plan lengths, periods and deadlines: all that a bound reads of the facts
+pub record SameTimes (k : ℕ) (f g : Facts) : Type 0 where
+  pub len : (i : ℕ) → i < k → f .len i ≡ g .len i
+  pub period : (i : ℕ) → i < k → f .period i ≡ g .period i
+  pub deadline : (i : ℕ) → i < k → f .deadline i ≡ g .deadline i
+
+pub times-self : (k : ℕ) (f : Facts) → SameTimes k f f
+times-self k f = record { len = λ i h. refl; period = λ i h. refl; deadline = λ i h. refl }
+
+pub alike-times : {k : ℕ} {f g : Facts} → Alike k f g → SameTimes k f g
+alike-times a = record { len = a .len; period = a .period; deadline = a .deadline }
 
 -- facts are alike themselves
 pub alike-self : (k : ℕ) (f : Facts) → Alike k f f
@@ -83,6 +95,24 @@ pub record SameMeasure (k : ℕ) (μ ν : Measure) : Type 0 where
   pub cost : (l h : ℕ) → l < k → h < l → μ .cost l h ≡ ν .cost l h
   pub carry : (l h : ℕ) → l < k → h < l → μ .carry h ≡ ν .carry h
 
+-- THE FIRST k FLOWS DECIDE THEIR OWN BOUNDS, by their times and their measure
+module _ (k : ℕ) (f g : Facts) (t : SameTimes k f g) (μ ν : Measure) (same : SameMeasure k μ ν) where
+  needed-times : (l R : ℕ) → l < k → slotsNeeded f μ l R ≡ slotsNeeded g ν l R
+  unfolding slotsNeeded
+  needed-times l R p =
+      ap₂ _+_ (t .len l p)
+      (sum-cong _ _ l (λ h b. rw (same .carry l h p b, t .period h (omega arith), same .cost l h p b)))
+
+  pub bound-times : (l : ℕ) → l < k → boundBy f μ l ≡ boundBy g ν l
+  unfolding boundBy admissible
+  bound-times l p =
+      first-cong _ _ (suc (f .deadline l)) (λ R h. rw (needed-times l R p, t .len l p, t .deadline l p))
+      ∙ ap (λ (d : ℕ). first (admissible g ν l) (suc d)) (t .deadline l p)
+
+  pub boundless-times : (l : ℕ) → l < k → boundlessBy f μ l ≡ boundlessBy g ν l
+  unfolding boundlessBy
+  boundless-times l p = ap₂ (λ (r d : ℕ). not (leb r d)) (bound-times l p) (t .deadline l p)
+
 module _ (k : ℕ) (f g : Facts) (a : Alike k f g) where
   pub interference-alike : (l h : ℕ) → l < k → h < k → interference f l h ≡ interference g l h
   unfolding interference
@@ -97,28 +127,44 @@ module _ (k : ℕ) (f g : Facts) (a : Alike k f g) where
       → SameMeasure k (byInterference f carry) (byInterference g other)
   byInterference-alike carry other c = record { cost = λ l h p b. interference-alike l h p (omega arith); carry = c }
 
-  pub measure-alike : SameMeasure k (measure f) (measure g)
-  measure-alike = byInterference-alike (f .deadline) (g .deadline) (λ l h p b. a .deadline h (omega arith))
+  pub deadline-alike : SameMeasure k (byDeadline f) (byDeadline g)
+  deadline-alike = byInterference-alike (f .deadline) (g .deadline) (λ l h p b. a .deadline h (omega arith))
 
   module _ (μ ν : Measure) (same : SameMeasure k μ ν) where
-    needed-alike : (l R : ℕ) → l < k → slotsNeeded f μ l R ≡ slotsNeeded g ν l R
-    unfolding slotsNeeded
-    needed-alike l R p =
-        ap₂ _+_ (a .len l p)
-        (sum-cong _ _ l (λ h b. rw (same .carry l h p b, a .period h (omega arith), same .cost l h p b)))
-
-    -- THE FIRST k FLOWS DECIDE THEIR OWN BOUNDS
     pub bound-prefix : (l : ℕ) → l < k → boundBy f μ l ≡ boundBy g ν l
-    unfolding boundBy admissible
-    bound-prefix l p =
-        first-cong _ _ (suc (f .deadline l)) (λ R h. rw (needed-alike l R p, a .len l p, a .deadline l p))
-        ∙ ap (λ (d : ℕ). first (admissible g ν l) (suc d)) (a .deadline l p)
+    bound-prefix = bound-times k f g (alike-times a) μ ν same
 
     pub boundless-prefix : (l : ℕ) → l < k → boundlessBy f μ l ≡ boundlessBy g ν l
-    unfolding boundlessBy
-    boundless-prefix l p = ap₂ (λ (r d : ℕ). not (leb r d)) (bound-prefix l p) (a .deadline l p)
+    boundless-prefix = boundless-times k f g (alike-times a) μ ν same
 
--- facts alike on all their flows have the same acceptance, code 9 and bounds
+-- facts of the same times on all their flows have the same acceptance, code 9 and bounds
+module _
+    (f g : Facts)
+    (m : f .flows ≡ g .flows)
+    (t : SameTimes (f .flows) f g)
+    (μ ν : Measure)
+    (same : SameMeasure (f .flows) μ ν)
+  where
+    pub accepted-times : acceptedBy f μ ≡ acceptedBy g ν
+    unfolding acceptedBy
+    accepted-times =
+        ap not
+        (some-cong (boundlessBy f μ) (boundlessBy g ν) (f .flows) (boundless-times (f .flows) f g t μ ν same)
+        ∙ ap (some (boundlessBy g ν)) m)
+
+    pub code9-times : code9By f μ ≡ code9By g ν
+    unfolding code9By
+    code9-times =
+        givenFirst-same 9 (boundlessBy f μ) (boundlessBy g ν) (f .flows) (g .flows) m (boundless-times (f .flows) f g t μ ν same)
+
+    pub bounds-times : boundsBy f μ ≡ boundsBy g ν
+    unfolding boundsBy
+    bounds-times =
+        ap (padded mostFlows)
+        (listTo-same (boundBy f μ) (boundBy g ν) (f .flows) (bound-times (f .flows) f g t μ ν same)
+        ∙ ap (listTo (boundBy g ν)) m)
+
+-- and so have facts that are alike on all of them
 module _
     (f g : Facts)
     (m : f .flows ≡ g .flows)
@@ -127,20 +173,10 @@ module _
     (same : SameMeasure (f .flows) μ ν)
   where
     pub accepted-alike : acceptedBy f μ ≡ acceptedBy g ν
-    unfolding acceptedBy
-    accepted-alike =
-        ap not
-        (some-cong (boundlessBy f μ) (boundlessBy g ν) (f .flows) (boundless-prefix (f .flows) f g a μ ν same)
-        ∙ ap (some (boundlessBy g ν)) m)
+    accepted-alike = accepted-times f g m (alike-times a) μ ν same
 
     pub code9-alike : code9By f μ ≡ code9By g ν
-    unfolding code9By
-    code9-alike =
-        givenFirst-same 9 (boundlessBy f μ) (boundlessBy g ν) (f .flows) (g .flows) m (boundless-prefix (f .flows) f g a μ ν same)
+    code9-alike = code9-times f g m (alike-times a) μ ν same
 
     pub bounds-alike : boundsBy f μ ≡ boundsBy g ν
-    unfolding boundsBy
-    bounds-alike =
-        ap (padded mostFlows)
-        (listTo-same (boundBy f μ) (boundBy g ν) (f .flows) (bound-prefix (f .flows) f g a μ ν same)
-        ∙ ap (listTo (boundBy g ν)) m)
+    bounds-alike = bounds-times f g m (alike-times a) μ ν same

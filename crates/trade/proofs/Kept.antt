@@ -23,6 +23,8 @@ use Rattle.trade.proofs.First.{lt-or-ge, some-false, some-none}
 use Rattle.trade.proofs.Sums.{length-listTo, getD-listTo, listTo-same}
 use Rattle.trade.proofs.Answers.{Passed, given-false, given-passed}
 use Rattle.trade.proofs.Alike.{Alike, SameMeasure, alike-counts, interference-alike}
+use Rattle.trade.proofs.Alike.{times-self}
+use Rattle.trade.proofs.Fair.{fair-same}
 use Rattle.trade.proofs.Places.{SameUsed, same-flows, same-alike}
 
 -- A SQUARE: figure h of line l stands at 32 l + h
@@ -118,7 +120,9 @@ code17-counted n n′ m rows records steps figures = refl
 -- RIGHT FIGURES measure what interference measures
 pub right-measure : (t : Tabled) → RightFigures t → SameMeasure (factsOf (t .sections) .flows) (keptMeasure t) (measure (factsOf (t .sections)))
 unfolding factsOf
-right-measure t right = record { cost = right; carry = λ l h p q. refl }
+right-measure t right =
+    let f : Facts = factsOf (t .sections) in
+    fair-same (f .flows) f f (times-self (f .flows) f) (figureIn (t .figures)) (interference f) right
 
 -- TABLES with the same bytes at their used places have the same figures, and figures that are right for one are for the other
 pub alike-right :

@@ -9,6 +9,7 @@ pub mod Order
 pub mod Answers
 pub mod Valid
 pub mod Alike
+pub mod Fair
 pub mod Prefix
 pub mod Bytes
 pub mod Area

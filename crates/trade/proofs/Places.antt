@@ -17,7 +17,8 @@ use Rattle.trade.specs.declared.answer.Answer.{Answer}
 use Rattle.trade.proofs.First.{some-cong}
 use Rattle.trade.proofs.Sums.{sum-cong, sum-next, sum-le}
 use Rattle.trade.proofs.Answers.{Passed, passed-none, passed-more, passed-head, passed-tail, givenFirst-same}
-use Rattle.trade.proofs.Alike.{Alike, conflicts-placed, measure-alike, code9-alike, bounds-alike}
+use Rattle.trade.proofs.Alike.{Alike, conflicts-placed, code9-alike, bounds-alike}
+use Rattle.trade.proofs.Fair.{measure-alike}
 use Rattle.trade.proofs.Valid.{table-valid, Placed, table-placed}
 
 -- the same counts, and the same bytes at the used places

@@ -1,8 +1,10 @@
 -- The response bound, acceptance, and code 9. What the bound of a flow reads of the flows above it is a parameter, the measure: their
--- interference and their deadlines, today. Leans on Interference, First and Answers.
-use Prim.Native.Nat.{ℕ, suc, _+_, _-_, _*_, _/_, _≤_}
+-- interference and their bounds. Leans on Interference, First and Answers.
+use Prim.Native.Nat.{ℕ, zero, suc, _+_, _-_, _*_, _/_, _≤_}
 use mathlib.Core.Bool.{Bool, not, _&&_}
+use mathlib.Core.List.{List, [], _∷_, _++_}
 use lib.Dec.{leb}
+use lib.ListN.{getD}
 use Rattle.trade.specs.First.{first, some, sumTo}
 use Rattle.trade.specs.Facts.{Facts}
 use Rattle.trade.specs.Answers.{givenFirst}
@@ -26,9 +28,9 @@ pub record Measure : Type 0 where
 abbrev pub byInterference : Facts → (ℕ → ℕ) → Measure
 byInterference f carry = record { cost = interference f; carry = carry }
 
--- the measure: interference, and an instance may be carried in up to its deadline
-abbrev pub measure : Facts → Measure
-measure f = byInterference f (f .deadline)
+-- THE DEADLINE COUNT: an instance may be carried in up to its deadline
+abbrev pub byDeadline : Facts → Measure
+byDeadline f = byInterference f (f .deadline)
 
 -- the slots that flow l needs within R slots: its own L, and for each flow h above it the instances of h, times the cost of one
 unfoldable pub slotsNeeded : Facts → Measure → ℕ → ℕ → ℕ
@@ -48,6 +50,23 @@ admissible f μ l R = leb (f .len l) R && leb R (f .deadline l) && leb (slotsNee
 unfoldable pub boundBy : Facts → Measure → ℕ → ℕ
 boundBy f μ l = first (admissible f μ l) (suc (f .deadline l))
 
+-- THE FAIR COUNT: the bound of l, given the bounds of the flows above it, up to which an instance of each may be carried in
+abbrev pub boundGiven : Facts → (ℕ → ℕ → ℕ) → List ℕ → ℕ → ℕ
+boundGiven f cost above l = boundBy f (record { cost = cost; carry = λ h. getD above h 0 }) l
+
+-- the bounds of the first k flows, from the highest priority down
+unfoldable pub boundsAbove : Facts → (ℕ → ℕ → ℕ) → ℕ → List ℕ
+boundsAbove f cost zero = []
+boundsAbove f cost (suc k) = boundsAbove f cost k ++ (boundGiven f cost (boundsAbove f cost k) k ∷ [])
+
+-- the measure of these costs, and of the bound of each flow
+abbrev pub fairly : Facts → (ℕ → ℕ → ℕ) → Measure
+fairly f cost = record { cost = cost; carry = λ h. boundGiven f cost (boundsAbove f cost h) h }
+
+-- the measure: interference, and an instance may be carried in up to its bound
+abbrev pub measure : Facts → Measure
+measure f = fairly f (interference f)
+
 -- a flow that has no response bound
 unfoldable pub boundlessBy : Facts → Measure → ℕ → Bool
 boundlessBy f μ l = not (leb (boundBy f μ l) (f .deadline l))
@@ -60,7 +79,7 @@ acceptedBy f μ = not (some (boundlessBy f μ) (f .flows))
 unfoldable pub code9By : Facts → Measure → Answer
 code9By f μ = givenFirst 9 (boundlessBy f μ) (f .flows)
 
--- by the measure of interference and deadlines; adding takes the code, and the proofs of `bounds` and `promise` the others
+-- by the measure of interference and bounds; adding takes the code, and the proofs of `bounds` and `promise` the others
 abbrev pub code9 : Facts → Answer
 code9 f = code9By f (measure f)
 

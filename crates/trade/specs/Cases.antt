@@ -126,11 +126,11 @@ pub record Cases : Type 0 where
   -- 2. I(9,7) = 2; the conflicts are 4-3 with 2-3, 3-2 with 1-2, 3-2 with 2-3
   pub case2 : interference (said bookA) 1 0 ≡ 2
   pub case2-conflicts : threeByThree (matrix (said bookA) 1 0) ≡ false ∷ false ∷ false ∷ false ∷ false ∷ true ∷ false ∷ true ∷ true ∷ []
-  -- 3. bounds 3 and 7, zeros elsewhere
-  pub case3 : checkOf bookA ≡ record { answer = done 0; bounds = 3 ∷ 7 ∷ replicate 30 0 }
-  -- 4. D of flow 9 set to 7: accepted; set to 6: code 9, flow 1, and all zeros
-  pub case4-accepted : checks (deadlineAt deadlineOf9 7 bookA) ≡ done 0
-  pub case4-refused : checkOf (deadlineAt deadlineOf9 6 bookA) ≡ record { answer = refused 9 1; bounds = replicate mostFlows 0 }
+  -- 3. bounds 3 and 5, zeros elsewhere
+  pub case3 : checkOf bookA ≡ record { answer = done 0; bounds = 3 ∷ 5 ∷ replicate 30 0 }
+  -- 4. D of flow 9 set to 5: accepted; set to 4: code 9, flow 1, and all zeros
+  pub case4-accepted : checks (deadlineAt deadlineOf9 5 bookA) ≡ done 0
+  pub case4-refused : checkOf (deadlineAt deadlineOf9 4 bookA) ≡ record { answer = refused 9 1; bounds = replicate mostFlows 0 }
   -- 5. slot 2 grants flow 7 only (its step 2, 2-3); slot 3 grants flow 9, step 2 (3-2)
   pub case5-slot2 :
       slotOf bookA 2

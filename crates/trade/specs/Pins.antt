@@ -28,6 +28,10 @@ use Rattle.trade.specs.declared.flow.Flow.{Flow}
 abbrev pub deadlineOf7 : ℕ
 deadlineOf7 = 55
 
+-- book A with another period of flow 7, and the same deadline
+unfoldable pub periodOf7 : ℕ → List ℕ
+periodOf7 period = set (set bookA (deadlineOf7 - 2) period) deadlineOf7 period
+
 -- book A with faults: at each named byte, one that the code named with it refuses
 unfoldable pub noMark : List ℕ → List ℕ
 noMark book = set book 89 0x43
@@ -51,7 +55,7 @@ unfoldable pub jump : List ℕ → List ℕ
 jump book = set book 72 4
 
 unfoldable pub tooTight : List ℕ → List ℕ
-tooTight book = deadlineAt deadlineOf9 6 book
+tooTight book = deadlineAt deadlineOf9 4 book
 
 -- book A behind a byte, with the low bytes of its three distances
 unfoldable pub distances : ℕ → ℕ → ℕ → List ℕ
@@ -266,10 +270,10 @@ pub record Pins : Type 0 where
   pub order-8-17 : removes (withFigures (sectionsOf (jump bookA)) (oneFigure 1)) 2 ≡ refused 8 2
   pub order-17-14 : adds (withFigures fullTable (replicate 1024 0)) 33 (flowOf 1 10 1) [] ≡ refused 17 1
   pub order-17-15 : removes (withFigures tableA (oneFigure 1)) 2 ≡ refused 17 1
-  -- a table is checked by its figures as they stand: with 3 in place of 2 flow 9 of book A has the bound 9, with 1 the bound 5, with 30 none
-  pub kept-right : checkKeptOf keptA ≡ record { answer = done 0; bounds = 3 ∷ 7 ∷ replicate 30 0 }
-  pub kept-larger : checkKeptOf (withFigures tableA (oneFigure 3)) ≡ record { answer = done 0; bounds = 3 ∷ 9 ∷ replicate 30 0 }
-  pub kept-smaller : checkKeptOf (withFigures tableA (oneFigure 1)) ≡ record { answer = done 0; bounds = 3 ∷ 5 ∷ replicate 30 0 }
+  -- a table is checked by its figures as they stand: with 3 in place of 2 flow 9 of book A has the bound 6, with 1 the bound 4, with 30 none
+  pub kept-right : checkKeptOf keptA ≡ record { answer = done 0; bounds = 3 ∷ 5 ∷ replicate 30 0 }
+  pub kept-larger : checkKeptOf (withFigures tableA (oneFigure 3)) ≡ record { answer = done 0; bounds = 3 ∷ 6 ∷ replicate 30 0 }
+  pub kept-smaller : checkKeptOf (withFigures tableA (oneFigure 1)) ≡ record { answer = done 0; bounds = 3 ∷ 4 ∷ replicate 30 0 }
   pub kept-refused : checkKeptOf (withFigures tableA (oneFigure 30)) ≡ record { answer = refused 9 1; bounds = replicate mostFlows 0 }
   pub kept-order : checksKept (withFigures (sectionsOf (jump bookA)) (oneFigure 30)) ∷ checksKept (withFigures (sectionsOf (noId (jump bookA))) []) ∷ [] ≡ refused 8 2 ∷ refused 6 1 ∷ []
   -- WHAT A CALL LEAVES, done and refused: behind what it writes, lent memory stays as it was
@@ -325,8 +329,9 @@ pub record Pins : Type 0 where
   -- senders may disturb each other, and so may two receivers
   pub each-way : disturbed 2 1 ∷ disturbed 0 3 ∷ disturbed 3 0 ∷ disturbed 1 2 ∷ [] ≡ replicate 4 true
   pub like-to-like : disturbed 0 2 ∷ disturbed 2 0 ∷ disturbed 1 3 ∷ disturbed 3 1 ∷ [] ≡ replicate 4 false
-  -- D of flow 7 set to 6: bounds 3 and 5
-  pub tighter-carry : checkOf (deadlineAt deadlineOf7 6 bookA) .bounds ≡ 3 ∷ 5 ∷ replicate 30 0
+  -- P and D of flow 7 set to 7: bounds 3 and 5, where ceil((R + R_h) / P_h) would give 7; set to 6: 3 and 7, where ceil(R / P_h) would give 5
+  pub carry-no-longer : checkOf (periodOf7 7) .bounds ≡ 3 ∷ 5 ∷ replicate 30 0
+  pub carry-no-shorter : checkOf (periodOf7 6) .bounds ≡ 3 ∷ 7 ∷ replicate 30 0
   -- of a flow above with P 10 and D 5, one instance counts in 6 slots, and two in 7
   pub one-instance : instances 6 5 10 ≡ 1
   pub two-instances : instances 7 5 10 ≡ 2
@@ -339,10 +344,10 @@ pub record Pins : Type 0 where
   pub begins : releasesAt 5 .begun 2 ∷ releasesAt 6 .begun 2 ∷ [] ≡ false ∷ true ∷ []
   -- flow 7 of book A goes again in slot 10, its second instance, with its number
   pub later-slot : take grantBytes (slotOf bookA 10 .grants) ≡ 0 ∷ 7 ∷ 0 ∷ 0 ∷ 0 ∷ 1 ∷ 0 ∷ 0 ∷ 1 ∷ []
-  -- four flows of three nodes: each has its bound, its place and its slot; D of flow 4 set to 6: code 9, flow 3; released while it is
+  -- four flows of three nodes: each has its bound, its place and its slot; D of flow 4 set to 3: code 9, flow 3; released while it is
   -- unfinished: code 11, flow 3
-  pub four-bounds : checkOf bookOf4 ≡ record { answer = done 0; bounds = 1 ∷ 3 ∷ 5 ∷ 7 ∷ replicate 28 0 }
-  pub four-tight : checks (set bookOf4 61 6) ≡ refused 9 3
+  pub four-bounds : checkOf bookOf4 ≡ record { answer = done 0; bounds = 1 ∷ 2 ∷ 3 ∷ 4 ∷ replicate 28 0 }
+  pub four-tight : checks (set bookOf4 61 3) ≡ refused 9 3
   pub four-slot :
       slotOf bookOf4 3
       ≡ record {

@@ -14,9 +14,11 @@ use Rattle.trade.specs.Bound.{byInterference, measure, bound}
 use Rattle.trade.specs.declared.answer.Answer.{Answer}
 use Rattle.trade.specs.declared.flow.Flow.{Flow}
 use Rattle.bounds.specs.Bounds.{refusedBy}
+use Rattle.trade.specs.Interference.{interference}
+use Rattle.trade.proofs.Fair.{fair-carry}
 use Rattle.trade.proofs.Alike.{Alike, alike-counts, byInterference-alike, bound-prefix}
 use Rattle.sections.proofs.FormedLaws.{formed-less}
-use Rattle.bounds.proofs.BoundsLaws.{Bounding, bounding-none, bounding-more, bounded-refused, bounded-done}
+use Rattle.bounds.proofs.BoundsLaws.{Bounding, bounding-at, bounding-range, bounding-none, bounding-more, bounded-refused, bounded-done}
 use Rattle.pairs.proofs.SpreadLaws.{zeros}
 use Rattle.figures.proofs.FiguresLaws.{all-heard}
 use Rattle.figures.proofs.Padded.{filled-at}
@@ -24,11 +26,11 @@ use Rattle.bounds.proofs.bounds.bounds_of.Statement.{statement}
 use Rattle.bounds.proofs.bounds.bounds_of.Tie as tie
 
 abbrev Inv-loop : tie.InvT-loop
-Inv-loop flows rows records steps heard bounds₀ periods₀ carries₀ l₀ bounds periods carries l =
-    (l ≤ flows) × Bounding (factsIn 0 flows rows records steps) (measure (factsIn 0 flows rows records steps)) l bounds periods carries
+Inv-loop flows rows records steps heard bounds₀ periods₀ l₀ bounds periods l =
+    (l ≤ flows) × Bounding (factsIn 0 flows rows records steps) (measure (factsIn 0 flows rows records steps)) l bounds periods
 
 abbrev μ-loop : tie.MeasureT-loop
-μ-loop flows rows records steps heard bounds₀ periods₀ carries₀ l₀ bounds periods carries l = flows - l
+μ-loop flows rows records steps heard bounds₀ periods₀ l₀ bounds periods l = flows - l
 
 hear-above-requires : tie.Need-hear-above-requires Inv-loop μ-loop
 hear-above-requires c κs = (c .before .before .before .before .pre, (refl, λ y h. zeros 64 y))
@@ -55,8 +57,8 @@ bound-at-requires c κs =
         λ h b. rw (loop .inv .1 .period) (filled-at mostFlows (λ (k : ℕ). field records k 2) (loop .l) h b),
         (
           λ h b.
-              rw (loop .inv .1 .carry, filled-at mostFlows (λ (k : ℕ). field records k 3) (loop .l) h b)
-              (formed .fields h (omega arith) .deadline .0, omega (arith, formed .fields h (omega arith) .deadline .1, formed .fields h (omega arith) .period .1)),
+              let range = formed .fields h (omega arith) in
+              bounding-range _ _ (loop .l) h (loop .bounds) (loop .periods) b (range .len .0) (omega (arith, range .deadline .1, range .period .1)) (loop .inv .1),
           (
             omega (arith, c .before .before .before .before .before .before .before .hear-above .ensures .size),
             all-heard (a .flows) (loop .l) (now (a .rows)) records (now (a .steps)) _ formed (omega arith) (c .before .before .before .before .before .before .before .hear-above .ensures),
@@ -90,12 +92,12 @@ bounded c =
     let loop = c .before .before .before .before .before .before .loop in
     let f : Facts = factsIn 0 0 (now (a .rows)) (now (a .records)) (now (a .steps)) in
     let g : Facts = factsIn 0 (a .flows) (now (a .rows)) (now (a .records)) (now (a .steps)) in
-    let carry : ℕ → ℕ = λ h. getD (loop .carries) h 0 in
+    let carry : ℕ → ℕ = λ h. getD (loop .bounds) h 0 in
     let alike : Alike (loop .l + 1) f g = alike-counts (loop .l + 1) 0 0 0 (a .flows) (now (a .rows)) (now (a .records)) (now (a .steps)) in
     c .bound-at .ensures
     ∙ bound-prefix (loop .l + 1) f g alike (byInterference f carry) (measure g)
-    (byInterference-alike (loop .l + 1) f g alike carry (g .deadline)
-    (λ l h p b. rw (loop .inv .1 .carry) (filled-at mostFlows (g .deadline) (loop .l) h (omega arith))))
+    (byInterference-alike (loop .l + 1) f g alike carry (measure g .carry)
+    (λ l h p b. bounding-at g (measure g) (loop .l) h (loop .bounds) (loop .periods) (omega arith) (loop .inv .1) ∙ sym (fair-carry g (interference g) h)))
     (loop .l) (omega arith)
 
 cast-if1 : tie.Need-cast-if1 Inv-loop μ-loop
@@ -117,7 +119,7 @@ returns c =
     rw (← fields (c .before .before .before .before .before .before .before .before) .1, ← bounded (c .before .before .before .before)) (c .before .before .if1 .taken) in
     c .refused2 .ensures
     ∙ ap refusedBy (c .before .refused .ensures)
-    ∙ sym (bounded-refused f (measure f) (loop .l) _ _ _ (omega arith) over (loop .inv .1))
+    ∙ sym (bounded-refused f (measure f) (loop .l) _ _ (omega arith) over (loop .inv .1))
 
 cast-bounds : tie.Need-cast-bounds Inv-loop μ-loop
 cast-bounds c = omega (arith, fields (c .before .before .before .before .before .before))
@@ -134,12 +136,6 @@ mul-periods c = omega (arith, c .before .before .before .before .before .before 
 array-write-periods : tie.Need-array-write-periods Inv-loop μ-loop
 array-write-periods c = omega (arith, c .before .before .before .before .before .before .before .before .before .before .before .before .before .before .before .pre .most)
 
-mul-carries : tie.Need-mul-carries Inv-loop μ-loop
-mul-carries c = omega (arith, c .before .before .before .before .before .before .before .before .before .before .before .before .before .before .before .pre .most)
-
-array-write-carries : tie.Need-array-write-carries Inv-loop μ-loop
-array-write-carries c = omega (arith, c .before .before .before .before .before .before .before .before .before .before .before .before .before .before .before .pre .most)
-
 add-l : tie.Need-add-l Inv-loop μ-loop
 add-l c = omega (arith, c .before .before .before .before .before .before .before .before .before .before .before .before .before .before .before .pre .most)
 
@@ -153,7 +149,7 @@ loop-again c =
     let said = fields (c .before .before .before .before .before .before) in
     let room : loop .l < mostFlows = lt-of-lt-of-le (c .before .before .before .before .before .before .before .loop-test .taken) (s .pre .most) in (
       rw (add-one (loop .l)) (c .before .before .before .before .before .before .before .loop-test .taken),
-      bounding-more f (measure f) (loop .l) _ _ _ _ _ _ room (bounded (c .before .before)) (said .0) (said .1) (c .if1 .left) (loop .inv .1),
+      bounding-more f (measure f) (loop .l) _ _ _ _ _ room (bounded (c .before .before)) (said .0) (said .1) (c .if1 .left) (loop .inv .1),
     )
 
 done-requires : tie.Need-done-requires Inv-loop μ-loop
@@ -166,10 +162,9 @@ returns-2 c =
     let loop = c .before .before .loop in
     let f : Facts = factsIn 0 (a .flows) (now (a .rows)) (now (a .records)) (now (a .steps)) in
     ap (λ (answer : Answer). record { answer = answer; bounds = loop .bounds }) (c .done .ensures)
-    ∙ bounded-done f (measure f) (loop .l) _ _ _ (omega arith) (loop .inv .1)
+    ∙ bounded-done f (measure f) (loop .l) _ _ (omega arith) (loop .inv .1)
 
 pub bounds-of-spec : {M : Type 1} → statement M
 bounds-of-spec =
     tie.close (tie.spec Inv-loop μ-loop (λ c. refl) hear-above-requires loop-holds record-at-requires slice-aggregate-bound-at bound-at-requires cast-if1 refused-requires
-    refused-requires-2 returns cast-bounds mul-bounds array-write-bounds mul-periods array-write-periods
-    mul-carries array-write-carries add-l (λ c. omega arith) loop-again done-requires returns-2)
+    refused-requires-2 returns cast-bounds mul-bounds array-write-bounds mul-periods array-write-periods add-l (λ c. omega arith) loop-again done-requires returns-2)

@@ -10,22 +10,24 @@ use native.Mathlib.Nat.{lt-of-lt-of-le}
 use Rattle.trade.specs.Limits.{mostFlows, mostPeriod}
 use Rattle.trade.specs.Layout.{field}
 use Rattle.trade.specs.Facts.{Facts, factsIn, factsOf, flowIn}
-use Rattle.trade.specs.Bound.{boundBy}
+use Rattle.trade.specs.Bound.{boundBy, fairly}
 use Rattle.trade.specs.declared.answer.Answer.{Answer}
 use Rattle.trade.specs.declared.flow.Flow.{Flow}
 use Rattle.bounds.specs.Bounds.{refusedBy, byFigures}
+use Rattle.trade.specs.Kept.{figureIn}
+use Rattle.trade.proofs.Fair.{fair-carry}
 use Rattle.trade.proofs.Alike.{alike-counts, bound-prefix}
-use Rattle.bounds.proofs.BoundsLaws.{Bounding, bounding-none, bounding-more, bounded-refused, bounded-done}
+use Rattle.bounds.proofs.BoundsLaws.{Bounding, bounding-at, bounding-range, bounding-none, bounding-more, bounded-refused, bounded-done}
 use Rattle.figures.proofs.Padded.{filled-at}
 use Rattle.bounds.proofs.kept.bounds_kept.Statement.{statement}
 use Rattle.bounds.proofs.kept.bounds_kept.Tie as tie
 
 abbrev Inv-loop : tie.InvT-loop
-Inv-loop flows records figures bounds₀ periods₀ carries₀ l₀ bounds periods carries l =
-    (l ≤ flows) × Bounding (factsIn 0 flows [] records []) (byFigures figures (λ h. field records h 3)) l bounds periods carries
+Inv-loop flows records figures bounds₀ periods₀ l₀ bounds periods l =
+    (l ≤ flows) × Bounding (factsIn 0 flows [] records []) (fairly (factsIn 0 flows [] records []) (figureIn figures)) l bounds periods
 
 abbrev μ-loop : tie.MeasureT-loop
-μ-loop flows records figures bounds₀ periods₀ carries₀ l₀ bounds periods carries l = flows - l
+μ-loop flows records figures bounds₀ periods₀ l₀ bounds periods l = flows - l
 
 loop-holds : tie.Need-loop-holds Inv-loop μ-loop
 loop-holds c = (omega arith, bounding-none _ _)
@@ -51,8 +53,8 @@ kept-bound-requires c κs =
       (
         λ h b. rw (loop .inv .1 .period) (filled-at mostFlows (λ (k : ℕ). field records k 2) (loop .l) h b),
         λ h b.
-            rw (loop .inv .1 .carry, filled-at mostFlows (λ (k : ℕ). field records k 3) (loop .l) h b)
-            (timed .fields h (omega arith) .deadline .0, omega (arith, timed .fields h (omega arith) .deadline .1, timed .fields h (omega arith) .period .1)),
+            let range = timed .fields h (omega arith) in
+            bounding-range _ _ (loop .l) h (loop .bounds) (loop .periods) b (range .len .0) (omega (arith, range .deadline .1, range .period .1)) (loop .inv .1),
       ),
     )
 
@@ -73,7 +75,7 @@ fields c =
 bounded :
     (c : tie.After-kept-bound Inv-loop μ-loop)
     → c .kept-bound .result
-    ≡ boundBy (factsIn 0 (c .before .before .before .before .before .before .before .before .args .flows) [] (now (c .before .before .before .before .before .before .before .before .args .records)) []) (byFigures (now (c .before .before .before .before .before .before .before .before .args .figures)) (λ h. field (now (c .before .before .before .before .before .before .before .before .args .records)) h 3)) (c .before .before .before .before .before .loop .l)
+    ≡ boundBy (factsIn 0 (c .before .before .before .before .before .before .before .before .args .flows) [] (now (c .before .before .before .before .before .before .before .before .args .records)) []) (fairly (factsIn 0 (c .before .before .before .before .before .before .before .before .args .flows) [] (now (c .before .before .before .before .before .before .before .before .args .records)) []) (figureIn (now (c .before .before .before .before .before .before .before .before .args .figures)))) (c .before .before .before .before .before .loop .l)
 unfolding factsOf
 bounded c =
     let a = c .before .before .before .before .before .before .before .before .args in
@@ -81,9 +83,12 @@ bounded c =
     let f : Facts = factsIn 0 0 [] (now (a .records)) [] in
     let g : Facts = factsIn 0 (a .flows) [] (now (a .records)) [] in
     c .kept-bound .ensures
-    ∙ bound-prefix (loop .l + 1) f g (alike-counts (loop .l + 1) 0 0 0 (a .flows) [] (now (a .records)) []) (byFigures (now (a .figures)) (λ h. getD (loop .carries) h 0))
-    (byFigures (now (a .figures)) (g .deadline))
-    (record { cost = λ l h p b. refl; carry = λ l h p b. rw (loop .inv .1 .carry) (filled-at mostFlows (g .deadline) (loop .l) h (omega arith)) })
+    ∙ bound-prefix (loop .l + 1) f g (alike-counts (loop .l + 1) 0 0 0 (a .flows) [] (now (a .records)) []) (byFigures (now (a .figures)) (λ h. getD (loop .bounds) h 0))
+    (fairly g (figureIn (now (a .figures))))
+    (record {
+      cost = λ l h p b. refl;
+      carry = λ l h p b. bounding-at g (fairly g (figureIn (now (a .figures)))) (loop .l) h (loop .bounds) (loop .periods) (omega arith) (loop .inv .1) ∙ sym (fair-carry g (figureIn (now (a .figures))) h);
+    })
     (loop .l) (omega arith)
 
 cast-if1 : tie.Need-cast-if1 Inv-loop μ-loop
@@ -95,12 +100,12 @@ returns c =
     let a = c .before .before .before .before .before .before .before .before .before .before .before .before .args in
     let loop = c .before .before .before .before .before .before .before .before .before .loop in
     let f : Facts = factsIn 0 (a .flows) [] (now (a .records)) [] in
-    let μ = byFigures (now (a .figures)) (λ h. field (now (a .records)) h 3) in
+    let μ = fairly f (figureIn (now (a .figures))) in
     let over : field (now (a .records)) (loop .l) 3 < boundBy f μ (loop .l) =
     rw (← fields (c .before .before .before .before .before .before .before) .1, ← bounded (c .before .before .before .before)) (c .before .before .if1 .taken) in
     c .refused2 .ensures
     ∙ ap refusedBy (c .before .refused .ensures)
-    ∙ sym (bounded-refused f μ (loop .l) _ _ _ (omega arith) over (loop .inv .1))
+    ∙ sym (bounded-refused f μ (loop .l) _ _ (omega arith) over (loop .inv .1))
 
 cast-bounds : tie.Need-cast-bounds Inv-loop μ-loop
 cast-bounds c = omega (arith, fields (c .before .before .before .before .before))
@@ -115,7 +120,7 @@ loop-again c =
     let said = fields (c .before .before .before .before .before) in
     let room : loop .l < mostFlows = lt-of-lt-of-le (c .before .before .before .before .before .before .loop-test .taken) (s .pre .0 .most) in (
       rw (add-one (loop .l)) (c .before .before .before .before .before .before .loop-test .taken),
-      bounding-more f (byFigures (now (a .figures)) (f .deadline)) (loop .l) _ _ _ _ _ _ room (bounded (c .before .before)) (said .0) (said .1) (c .if1 .left) (loop .inv .1),
+      bounding-more f (fairly f (figureIn (now (a .figures)))) (loop .l) _ _ _ _ _ room (bounded (c .before .before)) (said .0) (said .1) (c .if1 .left) (loop .inv .1),
     )
 
 returns-2 : tie.Need-returns-2 Inv-loop μ-loop
@@ -125,7 +130,7 @@ returns-2 c =
     let loop = c .before .before .loop in
     let f : Facts = factsIn 0 (a .flows) [] (now (a .records)) [] in
     ap (λ (answer : Answer). record { answer = answer; bounds = loop .bounds }) (c .done .ensures)
-    ∙ bounded-done f (byFigures (now (a .figures)) (f .deadline)) (loop .l) _ _ _ (omega arith) (loop .inv .1)
+    ∙ bounded-done f (fairly f (figureIn (now (a .figures)))) (loop .l) _ _ (omega arith) (loop .inv .1)
 
 mul-bounds : tie.Need-mul-bounds Inv-loop μ-loop
 mul-bounds c = omega (arith, c .before .before .before .before .before .before .before .before .before .before .pre .0 .most)
@@ -139,17 +144,11 @@ mul-periods c = omega (arith, c .before .before .before .before .before .before 
 array-write-periods : tie.Need-array-write-periods Inv-loop μ-loop
 array-write-periods c = omega (arith, c .before .before .before .before .before .before .before .before .before .before .pre .0 .most)
 
-mul-carries : tie.Need-mul-carries Inv-loop μ-loop
-mul-carries c = omega (arith, c .before .before .before .before .before .before .before .before .before .before .pre .0 .most)
-
-array-write-carries : tie.Need-array-write-carries Inv-loop μ-loop
-array-write-carries c = omega (arith, c .before .before .before .before .before .before .before .before .before .before .pre .0 .most)
-
 add-l : tie.Need-add-l Inv-loop μ-loop
 add-l c = omega (arith, c .before .before .before .before .before .before .before .before .before .before .pre .0 .most)
 
 pub bounds-kept-spec : {M : Type 1} → statement M
 bounds-kept-spec =
     tie.close (tie.spec Inv-loop μ-loop loop-holds record-at-requires kept-bound-requires cast-if1 (λ c κs. tt) (λ c κs. tt) returns cast-bounds
-    mul-bounds array-write-bounds mul-periods array-write-periods mul-carries array-write-carries add-l (λ c. omega arith) loop-again
+    mul-bounds array-write-bounds mul-periods array-write-periods add-l (λ c. omega arith) loop-again
     (λ c κs. tt) returns-2)

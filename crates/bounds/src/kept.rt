@@ -12,7 +12,7 @@ ghost use Rattle.bounds.specs.Bounds.{Timed, byFigures, boundedIn};
 use crate::bounds::Checked;
 use crate::bounds::refused;
 use crate::rising::smallest;
-use figures::kept::line_from;
+use square::kept::line_from;
 use sections::records::record_at;
 use trade::Answer;
 use trade::Flow;

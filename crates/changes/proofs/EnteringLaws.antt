@@ -28,7 +28,7 @@ use Rattle.trade.proofs.Used.{same-sections, NoMore}
 use Rattle.trade.proofs.Moved.{SamePlan, interference-moved, same-disturbs, plan-before, plan-behind}
 use Rattle.trade.proofs.Kept.{interference-counted}
 use Rattle.trade.proofs.Exchange.{Fits, field-come, new-steps, recut-no-more}
-use Rattle.figures.specs.Carried.{beforeIn, OldFigures}
+use Rattle.square.specs.Carried.{beforeIn, OldFigures}
 use Rattle.rules.specs.Rules.{New, Carried}
 use Rattle.changes.specs.Moved.{coming, Coming}
 use Rattle.cut.proofs.CutLaws.{length-entered}

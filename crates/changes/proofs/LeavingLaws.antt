@@ -26,7 +26,7 @@ use Rattle.trade.proofs.Exchange.{Fits, recut-no-more}
 use Rattle.changes.specs.Moved.{Leaving}
 use Rattle.cut.specs.Turned.{turned}
 use Rattle.cut.proofs.CutLaws.{left-front}
-use Rattle.figures.specs.Carried.{beforeOut, withoutFigures}
+use Rattle.square.specs.Carried.{beforeOut, withoutFigures}
 use Rattle.changes.proofs.RecutLaws.{steps-most, old-full, steps-cut, passed-in-range, passed-right-used}
 use Rattle.rules.proofs.RulesLaws.{old-passed, place-passed, leave-there}
 

@@ -11,7 +11,7 @@ ghost use Rattle.changes.specs.Change.{Returns};
 ghost use Rattle.changes.specs.Moved.{Leaving};
 use cut::cut::clear;
 use cut::cut::turn;
-use figures::carried::figures_out;
+use square::carried::figures_out;
 use rules::rules::leave_answer;
 use rules::rules::old_answer;
 use sections::records::steps_before;

@@ -3,6 +3,4 @@ pub mod Padded
 pub mod RisesLaws
 pub mod LanesLaws
 pub mod FiguresLaws
-pub mod KeptLaws
-pub mod CarriedLaws
 pub mod Unique

@@ -2,4 +2,3 @@
 pub mod Figures
 pub mod Rises
 pub mod Lanes
-pub mod Carried

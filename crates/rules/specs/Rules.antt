@@ -13,7 +13,7 @@ use Rattle.trade.specs.Codes.{code6}
 use Rattle.trade.specs.Kept.{Tabled, figuresRoom, figuresOf}
 use Rattle.trade.specs.Calls.{oldRules, newRules}
 use Rattle.trade.specs.declared.answer.Answer.{Answer}
-use Rattle.figures.specs.Carried.{OldFigures}
+use Rattle.square.specs.Carried.{OldFigures}
 
 -- what the rules on the old table answer, or where they pass what those behind them do
 unfoldable pub oldThen : Tabled → Answer → Answer

@@ -15,7 +15,7 @@ use book::parts::open_book;
 use book::parts::records_of;
 use book::parts::rows_of;
 use book::parts::steps_of;
-use figures::kept::keep;
+use square::kept::keep;
 use sections::records::records_answer;
 use sections::rows::rows_answer;
 use sections::steps::steps_answer;

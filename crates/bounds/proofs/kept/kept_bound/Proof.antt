@@ -10,11 +10,11 @@ use Rattle.trade.specs.Limits.{mostFlows}
 use Rattle.trade.specs.Facts.{Facts, factsIn, factsOf, flowIn}
 use Rattle.trade.specs.Kept.{figureIn}
 use Rattle.trade.specs.declared.flow.Flow.{Flow}
-use Rattle.figures.specs.Carried.{shifted}
+use Rattle.square.specs.Carried.{shifted}
 use Rattle.bounds.specs.Bounds.{byFigures}
 use Rattle.bounds.specs.Terms.{neededIn, smallestIn}
 use Rattle.bounds.proofs.SmallestLaws.{bound-in}
-use Rattle.figures.proofs.KeptLaws.{shifted-below}
+use Rattle.square.proofs.KeptLaws.{shifted-below}
 use Rattle.figures.proofs.Padded.{filled-at}
 use Rattle.bounds.proofs.kept.kept_bound.Statement.{statement}
 use Rattle.bounds.proofs.kept.kept_bound.Tie as tie

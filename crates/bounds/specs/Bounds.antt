@@ -8,7 +8,6 @@ use Rattle.trade.specs.Limits.{mostFlows, recordBytes}
 use Rattle.trade.specs.Facts.{Facts}
 use Rattle.trade.specs.Answers.{isDone}
 use Rattle.trade.specs.Bound.{Measure, measure, code9By}
-use Rattle.trade.specs.Kept.{figureIn}
 use Rattle.trade.specs.Calls.{boundsBy, checkOf}
 use Rattle.trade.specs.declared.answer.Answer.{Answer}
 use Rattle.sections.specs.Formed.{InRange}
@@ -22,12 +21,12 @@ refusedBy answer = record { answer = answer; bounds = replicate mostFlows 0 }
 unfoldable pub boundedIn : Facts → Measure → Checked
 boundedIn f μ = record { answer = code9By f μ; bounds = cond (isDone (code9By f μ)) (boundsBy f μ) (replicate mostFlows 0) }
 
--- by interference and deadlines; and the measure of figures that are kept, whatever the carry-in
+-- by interference and bounds; and the measure of these costs, whatever the carry-in
 abbrev pub boundedBy : Facts → Checked
 boundedBy f = boundedIn f (measure f)
 
-abbrev pub byFigures : List ℕ → (ℕ → ℕ) → Measure
-byFigures figures carry = record { cost = figureIn figures; carry = carry }
+abbrev pub byCosts : (ℕ → ℕ → ℕ) → (ℕ → ℕ) → Measure
+byCosts cost carry = record { cost = cost; carry = carry }
 
 -- the first k records are there, their fields in range
 pub record Timed (k : ℕ) (records : List ℕ) : Type 0 where

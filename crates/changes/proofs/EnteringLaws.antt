@@ -184,9 +184,9 @@ module _ (held : Tabled) (place : ℕ) (flow plan : List ℕ) (c : Coming held p
             ∙ interference-counted (new .nodes) (new .flows) 0 0 (new .rows) (new .records) (new .steps) l h;
       }
 
-  pub new-carried : (figures : List ℕ) → figures ≡ held .figures → Carried new place (held .figures) figures
+  pub new-carried : Carried new place (held .figures)
   unfolding recut used
-  new-carried figures e = record { copied = e; size = c .size; within = omega (arith, c .within); right = old-figures }
+  new-carried = record { size = c .size; within = omega (arith, c .within); right = old-figures }
 
 -- ADDING, where the old table and the place have passed
 pub record Enters (a : Adding) : Type 0 where

@@ -25,7 +25,6 @@ pub fn add(t: Table, place: usize, flow: Flow, plan: [u8; Plan::MOST * Plan::STE
     let mut rows = t.rows;
     let mut records = t.records;
     let mut steps = t.steps;
-    let old = t.figures;
     let mut figures = t.figures;
     let answer = enter(
         t.nodes,
@@ -33,7 +32,6 @@ pub fn add(t: Table, place: usize, flow: Flow, plan: [u8; Plan::MOST * Plan::STE
         &mut rows,
         &mut records,
         &mut steps,
-        &old,
         &mut figures,
         place,
         flow,
@@ -60,7 +58,6 @@ pub fn remove(t: Table, place: usize) -> Changed
     let mut rows = t.rows;
     let mut records = t.records;
     let mut steps = t.steps;
-    let old = t.figures;
     let mut figures = t.figures;
     let answer = leave(
         t.nodes,
@@ -68,7 +65,6 @@ pub fn remove(t: Table, place: usize) -> Changed
         &mut rows,
         &mut records,
         &mut steps,
-        &old,
         &mut figures,
         place,
     );

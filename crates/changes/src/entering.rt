@@ -45,21 +45,20 @@ fn places_taken(f: Flow) -> usize
 }
 
 // A flow with this record and these steps put in, and codes 6, 8 and 9 on the table with it. Done, the unused places are zero and the
-// figures those of the new table; refused, it is taken out again. The figures are lent twice, as they were and to be changed.
+// figures those of the new table; refused, it is taken out again.
 fn flow_in(
     nodes: usize,
     flows: &mut u8,
     rows: &mut [u8],
     records: &mut [u8],
     steps: &mut [u8],
-    old: &[u8],
     figures: &mut [u8],
     place: usize,
     flow: &mut [u8],
     plan: &mut [u8],
 ) -> Answer
-    requires { ⌜ Coming (tabled nodes (now flows) (now rows) (now records) (now steps) (now old)) place (now flow) (now plan) × (now figures ≡ now old) ⌝ }
-    ensures { λ r. ⌜ Comes (tabled nodes (now (flows .entry)) (now (rows .entry)) (now (records .entry)) (now (steps .entry)) (now (old .entry))) place
+    requires { ⌜ Coming (tabled nodes (now flows) (now rows) (now records) (now steps) (now figures)) place (now flow) (now plan) ⌝ }
+    ensures { λ r. ⌜ Comes (tabled nodes (now (flows .entry)) (now (rows .entry)) (now (records .entry)) (now (steps .entry)) (now (figures .entry))) place
         (now (flow .entry)) (now (plan .entry)) r
         (tabled nodes (now (flows .exit)) (now (rows .exit)) (now (records .exit)) (now (steps .exit)) (now (figures .exit))) ⌝ }
 {
@@ -79,7 +78,6 @@ fn flow_in(
         steps,
         new_end,
         place,
-        old,
         figures,
     );
     if answer.code != 0 {
@@ -101,15 +99,14 @@ pub(crate) fn enter(
     rows: &mut [u8],
     records: &mut [u8],
     steps: &mut [u8],
-    old: &[u8],
     figures: &mut [u8],
     place: usize,
     flow: Flow,
     plan: [u8; Plan::MOST * Plan::STEP_BYTES],
 ) -> Answer
-    requires { ⌜ KeptInMemory (tabled nodes (now flows) (now rows) (now records) (now steps) (now old)) × (now figures ≡ now old) ⌝ }
+    requires { ⌜ KeptInMemory (tabled nodes (now flows) (now rows) (now records) (now steps) (now figures)) ⌝ }
     ensures { λ r. ⌜ Returns (addOf (record {
-      table = tabled nodes (now (flows .entry)) (now (rows .entry)) (now (records .entry)) (now (steps .entry)) (now (old .entry));
+      table = tabled nodes (now (flows .entry)) (now (rows .entry)) (now (records .entry)) (now (steps .entry)) (now (figures .entry));
       place = place;
       flow = flow;
       plan = plan;
@@ -117,7 +114,7 @@ pub(crate) fn enter(
 {
     let count = *flows as usize;
     let placed = enter_answer(count, place);
-    let asked = old_answer(nodes as usize, count, rows, records, steps, old, placed);
+    let asked = old_answer(nodes as usize, count, rows, records, steps, figures, placed);
     if asked.code != 0 {
         return asked;
     }
@@ -130,7 +127,6 @@ pub(crate) fn enter(
         rows,
         records,
         steps,
-        old,
         figures,
         place,
         &mut record,

@@ -1,38 +1,35 @@
 // A flow that goes from the lent sections of a table.
 ghost use mathlib.Core.Path.{_≡_};
 ghost use Prim.Native.Nat.{_-_};
-ghost use lib.ListN.{length};
 ghost use Rattle.trade.specs.Layout.{sections};
 ghost use Rattle.trade.specs.Table.{used};
-ghost use Rattle.trade.specs.Kept.{tabled, figuresRoom, KeptInMemory, keptOf};
+ghost use Rattle.trade.specs.Kept.{tabled, KeptInMemory, keptOf};
 ghost use Rattle.trade.specs.Exchange.{recut};
 ghost use Rattle.trade.specs.Calls.{leaving, removeOf};
 ghost use Rattle.changes.specs.Change.{Returns};
 ghost use Rattle.changes.specs.Moved.{Leaving};
 use cut::cut::clear;
 use cut::cut::turn;
-use square::carried::figures_out;
 use rules::rules::leave_answer;
 use rules::rules::old_answer;
 use sections::records::steps_before;
+use square::carried::figures_out;
 use trade::Answer;
 use trade::Flow;
 use trade::Node;
 use trade::Plan;
 
-// The flow at a place taken out, and the unused places zero: its record and its steps change about with those behind them. The figures are
-// lent twice, as they were and to be changed.
+// The flow at a place taken out, and the unused places zero: its record and its steps change about with those behind them.
 fn flow_out(
     nodes: usize,
     flows: usize,
     rows: &mut [u8],
     records: &mut [u8],
     steps: &mut [u8],
-    old: &[u8],
     figures: &mut [u8],
     place: usize,
 )
-    requires { ⌜ Leaving (tabled nodes flows (now rows) (now records) (now steps) (now old)) place × (length (now figures) ≡ figuresRoom) ⌝ }
+    requires { ⌜ Leaving (tabled nodes flows (now rows) (now records) (now steps) (now figures)) place ⌝ }
     ensures { λ _. ⌜ tabled nodes (flows - 1) (now (rows .exit)) (now (records .exit)) (now (steps .exit)) (now (figures .exit))
         ≡ keptOf (recut (used (sections nodes flows (now (rows .entry)) (now (records .entry)) (now (steps .entry)))) (leaving place)) ⌝ }
 {
@@ -47,7 +44,7 @@ fn flow_out(
     clear(rows, Node::ROW_BYTES * nodes);
     clear(records, end - Flow::RECORD_BYTES);
     clear(steps, last - (next - first));
-    figures_out(flows - 1, place, old, figures);
+    figures_out(flows - 1, place, figures);
 }
 
 // Codes 3, 5, 6, 8 and 17 on the table, then 15. Refused, the table stays as it is.
@@ -57,32 +54,22 @@ pub(crate) fn leave(
     rows: &mut [u8],
     records: &mut [u8],
     steps: &mut [u8],
-    old: &[u8],
     figures: &mut [u8],
     place: usize,
 ) -> Answer
-    requires { ⌜ KeptInMemory (tabled nodes (now flows) (now rows) (now records) (now steps) (now old)) × (now figures ≡ now old) ⌝ }
+    requires { ⌜ KeptInMemory (tabled nodes (now flows) (now rows) (now records) (now steps) (now figures)) ⌝ }
     ensures { λ r. ⌜ Returns (removeOf (record {
-      table = tabled nodes (now (flows .entry)) (now (rows .entry)) (now (records .entry)) (now (steps .entry)) (now (old .entry));
+      table = tabled nodes (now (flows .entry)) (now (rows .entry)) (now (records .entry)) (now (steps .entry)) (now (figures .entry));
       place = place;
     })) r (tabled nodes (now (flows .exit)) (now (rows .exit)) (now (records .exit)) (now (steps .exit)) (now (figures .exit))) ⌝ }
 {
     let count = *flows as usize;
     let placed = leave_answer(count, place);
-    let asked = old_answer(nodes as usize, count, rows, records, steps, old, placed);
+    let asked = old_answer(nodes as usize, count, rows, records, steps, figures, placed);
     if asked.code != 0 {
         return asked;
     }
-    flow_out(
-        nodes as usize,
-        count,
-        rows,
-        records,
-        steps,
-        old,
-        figures,
-        place,
-    );
+    flow_out(nodes as usize, count, rows, records, steps, figures, place);
     *flows = (count - 1) as u8;
     asked
 }

@@ -75,6 +75,18 @@ module _ (room : ℕ) (figure : ℕ → ℕ) where
           (λ (b : n ≤ i). ⊎-elim (λ (c : n < i). behind i c) (λ (c : i ≤ n). new i (omega arith)) (lt-or-ge n i))
           (lt-or-ge i n)
 
+-- one more that is zero fills it alike
+pub filled-zero : (room : ℕ) (figure : ℕ → ℕ) (n : ℕ) → n < room → figure n ≡ 0 → filled room figure n ≡ filled room figure (n + 1)
+filled-zero room figure n h z =
+    ext-getD 0 (filled room figure n) (filled room figure (n + 1)) (length-filled room figure n (omega arith) ∙ sym (length-filled room figure (n + 1) (omega arith)))
+    (λ i l.
+    ⊎-elim (λ (b : i < n). filled-at room figure n i b ∙ sym (filled-at room figure (n + 1) i (omega arith)))
+    (λ (b : n ≤ i).
+    filled-behind room figure n i b
+    ∙ ⊎-elim (λ (c : n < i). sym (filled-behind room figure (n + 1) i (omega arith)))
+    (λ (c : i ≤ n). let e : i ≡ n = omega arith in rw e (sym (filled-at room figure (n + 1) n (omega arith) ∙ z))) (lt-or-ge n i))
+    (lt-or-ge i n))
+
 -- figures that agree fill a list alike
 pub filled-same : (room : ℕ) (figure other : ℕ → ℕ) (n : ℕ) → n ≤ room → ((i : ℕ) → i < n → figure i ≡ other i) → filled room figure n ≡ filled room other n
 filled-same room figure other n h e =

@@ -11,23 +11,23 @@ use borrow.Author.Tests.{eqb-false, ltb-false, leb-false}
 use Rattle.trade.specs.Limits.{mostFlows}
 use Rattle.trade.specs.Layout.{Sections}
 use Rattle.trade.specs.Facts.{Facts, factsOf, factsIn}
+use Rattle.trade.specs.Interference.{interference}
 use Rattle.trade.specs.Bound.{fairly, measure, code9, code9By}
-use Rattle.trade.specs.Kept.{Tabled, RightFigures, figureIn, figuresOf, code17, keptMeasure}
+use Rattle.trade.specs.Kept.{Tabled, RightFigures, code17}
 use Rattle.trade.specs.Answers.{isDone, givenFirst, firstOf, on, noNumber}
 use Rattle.trade.specs.Codes.{code6, code8, code14, code15Adding, code15Removing}
 use Rattle.trade.specs.Calls.{Adding, Removing, tableRules, oldRules, withFlow, enterRules, newRules, addAnswer, leaveRules, removeAnswer}
 use Rattle.trade.specs.declared.answer.Answer.{Answer}
 use Rattle.trade.proofs.Answers.{done-first, refused-second, Passed, passed-head, passed-tail, passed-first, passed-others, passed-look, firstOf-passed, given-passed, given-passes, firstOf-pass, firstOf-last, append-refused, append-passed, firstOf-look, firstOf-on}
-use Rattle.trade.proofs.Alike.{alike-self, code9-alike}
-use Rattle.trade.proofs.Kept.{figures-at, interference-counted, passed-right, right-measure}
+use Rattle.trade.proofs.Alike.{SameTimes}
+use Rattle.trade.proofs.Fair.{fair-same}
+use Rattle.trade.proofs.Kept.{interference-counted, passed-right}
 use Rattle.bounds.specs.Bounds.{boundedIn}
 use Rattle.bounds.specs.declared.bounds.Checked.{Checked}
-use Rattle.table.proofs.CheckedLaws.{records-alone}
+use Rattle.bounds.proofs.BoundsLaws.{bounded-times}
+use Rattle.square.specs.Carried.{OldFigures, pairsOf, figureWith}
+use Rattle.square.proofs.CarriedLaws.{with-right}
 use Rattle.rules.specs.Rules.{oldThen}
-
--- a table whose figures were lent twice, as they are and to be changed
-pub with-copy : (t : Tabled) (figures : List ℕ) → figures ≡ t .figures → record { sections = t .sections; figures = figures } ≡ t
-with-copy t figures e = λ i. record { sections = t .sections; figures = e i }
 
 -- the table after a change, by its answer: as it was, or the new one
 pub leaves : (answer r : Answer) (new old : Tabled) → r ≡ answer → (r .code ≡ 0 → ⊥) → old ≡ cond (isDone answer) new old
@@ -131,31 +131,25 @@ new-nine t six eight =
     ∙ firstOf-pass _ _ noNumber t eight
     ∙ firstOf-last (λ (u : Sections). code9 (factsOf u)) t (given-passes 8 _ _)
 
--- its figures, made for it, are right,
-made-right :
-    (t : Sections) (figures : List ℕ)
+-- by the newcomer's pairs and the figures of before it is decided as by interference
+pub with-nine :
+    (t : Sections) (place : ℕ) (old : List ℕ)
     → t .flows ≤ mostFlows
-    → figures ≡ figuresOf (factsIn 0 (t .flows) (t .rows) (t .records) (t .steps))
-    → RightFigures (record { sections = t; figures = figures })
-unfolding factsOf
-made-right t figures m e l h p q =
-    rw e
-    (figures-at (factsIn 0 (t .flows) (t .rows) (t .records) (t .steps)) m l h p q
-    ∙ interference-counted 0 (t .flows) (t .nodes) (t .flows) (t .rows) (t .records) (t .steps) l h)
-
--- and decide it as interference does
-pub kept-nine :
-    (t : Sections) (figures : List ℕ)
-    → t .flows ≤ mostFlows
-    → figures ≡ figuresOf (factsIn 0 (t .flows) (t .rows) (t .records) (t .steps))
-    → boundedIn (factsIn 0 (t .flows) [] (t .records) []) (fairly (factsIn 0 (t .flows) [] (t .records) []) (figureIn figures)) .answer ≡ code9 (factsOf t)
-unfolding boundedIn
-kept-nine t figures m e =
-    let u : Tabled = record { sections = t; figures = figures } in
-    let f : Facts = factsOf t in
-    ap (λ (c : Checked). c .answer) (records-alone u)
-    ∙ code9-alike f f refl (alike-self (f .flows) f) (keptMeasure u) (measure f) (right-measure u (made-right t figures m e))
-
--- bytes copied over as many
-pub copied-back : (old figures : List ℕ) → length figures ≡ length old → take (length old) old ++ drop (length old) figures ≡ old
-copied-back old figures e = rw (take-all (length old) old (omega arith), drop-of-length-le figures {i = length old} (omega (arith, e))) (append-nil old)
+    → OldFigures (t .flows) place (t .rows) (t .records) (t .steps) old
+    → boundedIn (factsIn 0 (t .flows) [] (t .records) [])
+    (fairly (factsIn 0 (t .flows) [] (t .records) [])
+    (figureWith place (pairsOf (t .flows) (factsIn 0 0 (t .rows) (t .records) (t .steps)) place) old)) .answer
+    ≡ code9 (factsOf t)
+unfolding boundedIn factsOf
+with-nine t place old m o =
+    let f : Facts = factsIn 0 (t .flows) [] (t .records) [] in
+    let cost = figureWith place (pairsOf (t .flows) (factsIn 0 0 (t .rows) (t .records) (t .steps)) place) old in
+    ap (λ (c : Checked). c .answer)
+    (bounded-times f (factsOf t) refl times (fairly f cost) (measure (factsOf t))
+    (fair-same (t .flows) f (factsOf t) times cost (interference (factsOf t))
+    (λ l h p q.
+    with-right (t .flows) place (t .rows) (t .records) (t .steps) old o m l h p q
+    ∙ interference-counted 0 0 (t .nodes) (t .flows) (t .rows) (t .records) (t .steps) l h)))
+  where
+    times : SameTimes (t .flows) (factsIn 0 (t .flows) [] (t .records) []) (factsOf t)
+    times = record { len = λ i h. refl; period = λ i h. refl; deadline = λ i h. refl }

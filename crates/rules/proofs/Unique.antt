@@ -40,5 +40,5 @@ pub used-answer-unique :
     (κs : _) (a : _) (r r' : _) (s s' : _)
     → used-answer.Post κs a r s
     → used-answer.Post κs a r' s'
-    → (r ≡ r') × (now (s .1 .1 .1 .1 .1 .1 .1 .1 .0) ≡ now (s' .1 .1 .1 .1 .1 .1 .1 .1 .0))
+    → (r ≡ r') × (now (s .1 .1 .1 .1 .1 .1 .1 .0) ≡ now (s' .1 .1 .1 .1 .1 .1 .1 .0))
 used-answer-unique κs a r r' s s' p q = one-new p q

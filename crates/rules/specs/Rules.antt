@@ -1,5 +1,5 @@
 -- The rules of a change: of the old table, and then those behind them; of the new table, with its figures. Leans on the trade's calls and on the
--- figures' Carried.
+-- square's Carried.
 use Prim.Native.Nat.{ℕ, _*_, _≤_, _<_}
 use mathlib.Core.Path.{_≡_}
 use mathlib.Core.Bool.{cond}
@@ -27,12 +27,11 @@ pub record New (t : Sections) : Type 0 where
   pub records : recordBytes * t .flows ≤ length (t .records)
   pub steps : code6 (factsOf t) .code ≡ 0 → stepBytes * allSteps (factsOf t) ≤ length (t .steps)
 
--- the figures of before a flow came in at a place, and a copy of them; where code 6 passes they are those of the flows that were there
-pub record Carried (t : Sections) (place : ℕ) (old figures : List ℕ) : Type 0 where
-  pub copied : figures ≡ old
-  pub size : length old ≡ figuresRoom
+-- the figures of before a flow came in at a place; where code 6 passes they are those of the flows that were there
+pub record Carried (t : Sections) (place : ℕ) (figures : List ℕ) : Type 0 where
+  pub size : length figures ≡ figuresRoom
   pub within : place < t .flows
-  pub right : code6 (factsOf t) .code ≡ 0 → OldFigures (t .flows) place (t .rows) (t .records) (t .steps) old
+  pub right : code6 (factsOf t) .code ≡ 0 → OldFigures (t .flows) place (t .rows) (t .records) (t .steps) figures
 
 -- what the rules on the new table answer, and the figures after it: those of the new table, or refused those of before
 pub record NewFigures (t : Sections) (old : List ℕ) (r : Answer) (after : List ℕ) : Type 0 where

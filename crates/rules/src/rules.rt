@@ -10,11 +10,12 @@ ghost use Rattle.trade.specs.Kept.{tabled, KeptInMemory};
 ghost use Rattle.trade.specs.Answers.{firstOf, noNumber};
 ghost use Rattle.trade.specs.Codes.{code14, code15Adding, code15Removing};
 ghost use Rattle.rules.specs.Rules.{oldThen, New, Carried, NewFigures};
-use bounds::kept::bounds_kept;
-use square::carried::figures_in;
-use square::kept::kept_answer;
+use bounds::kept::bounds_with;
 use sections::records::records_answer;
 use sections::steps::steps_answer;
+use square::carried::figures_in;
+use square::carried::pairs_at;
+use square::kept::kept_answer;
 use table::table::table_answer;
 use trade::Answer;
 use trade::Flow;
@@ -67,8 +68,8 @@ pub fn leave_answer(flows: usize, place: usize) -> Answer
     Answer::done(0)
 }
 
-// Codes 6, 8 and 9 on the new table, every flow tested, where a flow has come in at a place. Its figures are made for 9 from those of the
-// old table; refused, they are as they were.
+// Codes 6, 8 and 9 on the new table, every flow tested, where a flow has come in at a place. Code 9 goes by the newcomer's pairs and the figures of
+// before; once it has passed, the figures are those of the new table. Refused, they are as they were.
 fn new_answer<'a>(
     nodes: usize,
     flows: usize,
@@ -76,12 +77,11 @@ fn new_answer<'a>(
     records: &'a [u8],
     steps: &'a [u8],
     place: usize,
-    old: &'a [u8],
     figures: &mut [u8],
 ) -> Answer
     requires { ⌜ New (sections nodes flows (now rows) (now records) (now steps)) ⌝ }
-    requires { ⌜ Carried (sections nodes flows (now rows) (now records) (now steps)) place (now old) (now figures) ⌝ }
-    ensures { λ r. ⌜ NewFigures (sections nodes flows (now (rows .entry)) (now (records .entry)) (now (steps .entry))) (now (old .entry)) r (now (figures .exit)) ⌝ }
+    requires { ⌜ Carried (sections nodes flows (now rows) (now records) (now steps)) place (now figures) ⌝ }
+    ensures { λ r. ⌜ NewFigures (sections nodes flows (now (rows .entry)) (now (records .entry)) (now (steps .entry))) (now (figures .entry)) r (now (figures .exit)) ⌝ }
 {
     let named = records_answer(flows, records);
     if named.code != 0 {
@@ -91,12 +91,12 @@ fn new_answer<'a>(
     if stepped.code != 0 {
         return stepped;
     }
-    figures_in(flows, rows, records, steps, place, old, figures);
-    let answer = bounds_kept(flows, records, figures).answer;
+    let pairs = pairs_at(flows, rows, records, steps, place);
+    let answer = bounds_with(flows, records, place, &pairs, figures).answer;
     if answer.code != 0 {
-        bytes::copy(old, figures);
         return answer;
     }
+    figures_in(flows, place, &pairs, figures);
     answer
 }
 
@@ -109,15 +109,14 @@ pub fn used_answer<'a>(
     steps: &'a [u8],
     end: usize,
     place: usize,
-    old: &'a [u8],
     figures: &mut [u8],
 ) -> Answer
     requires { ⌜ New (sections nodes flows (take (rowBytes * nodes) (now rows)) (take (recordBytes * flows) (now records)) (take end (now steps))) ⌝ }
     requires { ⌜ end ≤ length (now steps) ⌝ }
-    requires { ⌜ Carried (sections nodes flows (take (rowBytes * nodes) (now rows)) (take (recordBytes * flows) (now records)) (take end (now steps))) place (now old) (now figures) ⌝ }
+    requires { ⌜ Carried (sections nodes flows (take (rowBytes * nodes) (now rows)) (take (recordBytes * flows) (now records)) (take end (now steps))) place (now figures) ⌝ }
     ensures { λ r. ⌜ NewFigures
         (sections nodes flows (take (rowBytes * nodes) (now (rows .entry))) (take (recordBytes * flows) (now (records .entry))) (take end (now (steps .entry))))
-        (now (old .entry)) r (now (figures .exit)) ⌝ }
+        (now (figures .entry)) r (now (figures .exit)) ⌝ }
 {
     let row_end = Node::ROW_BYTES * nodes;
     let record_end = Flow::RECORD_BYTES * flows;
@@ -128,7 +127,6 @@ pub fn used_answer<'a>(
         &records[..record_end],
         &steps[..end],
         place,
-        old,
         figures,
     )
 }

@@ -2,11 +2,11 @@
 -- square. Leans on the trade's Kept and on Padded. Assumes nothing.
 use Prim.Native.Nat.{ℕ, _+_, _-_, _*_, _/_, _%_, _≤_, _<_}
 use mathlib.Core.Path.{_≡_, refl, sym, _∙_, ap}
-use mathlib.Core.Bool.{not, cond, _&&_}
+use mathlib.Core.Bool.{Bool, true, false, not, cond, _&&_}
 use mathlib.Core.Logic.{⊎-elim}
 use mathlib.Core.List.{List}
 use native.Mathlib.Omega.{arith}
-use borrow.Author.Tests.{lt-ltb, le-ltb}
+use borrow.Author.Tests.{eqb-true, eqb-false, lt-ltb, le-ltb}
 use lib.Dec.{eqb, ltb}
 use lib.ListN.{length, getD, set, length-set}
 use lib.Seq.{ext-getD, getD-set-same, getD-set-other}
@@ -16,12 +16,12 @@ use Rattle.trade.specs.Layout.{sections}
 use Rattle.trade.specs.Facts.{factsIn, factsOf, firstStep, stepOf}
 use Rattle.trade.specs.Interference.{matrix, interference}
 use Rattle.trade.specs.Kept.{figuresRoom, figureIn, square, figuresOf, wrongLine}
-use Rattle.trade.proofs.First.{lt-or-ge, some-cong}
+use Rattle.trade.proofs.First.{not-both, bool-cases, lt-or-ge, some-cong}
 use Rattle.trade.proofs.Kept.{square-held}
 use Rattle.sections.specs.Formed.{Formed}
 use Rattle.square.specs.Carried.{shifted, lineOf, LinePut}
 use Rattle.figures.proofs.FiguresLaws.{interference-most}
-use Rattle.figures.proofs.Padded.{filled, filled-at, filled-behind}
+use Rattle.figures.proofs.Padded.{filled, filled-at, filled-behind, filled-same}
 
 -- WHERE a figure is read: below the cut at its place, any other ahead and back
 pub shifted-below : (cut ahead back h : ℕ) → h < cut → shifted cut ahead back h ≡ h
@@ -111,39 +111,86 @@ module _ (flows l : ℕ) (figure : ℕ → ℕ) where
       (λ (q : l ≤ h). rw (line-figure h, lt-ltb l flows p, le-ltb h l q) (omega arith)) (lt-or-ge h l))
       (λ (p : flows ≤ l). rw (line-figure h, le-ltb l flows p) (omega arith)) (lt-or-ge l flows)
 
--- THE FIRST LINES of figures: none yet, one more, and all
+pub line-same :
+    (flows l : ℕ) (figure other : ℕ → ℕ)
+    → l < mostFlows
+    → ((h : ℕ) → h < l → figure h ≡ other h)
+    → lineBy flows l figure ≡ lineBy flows l other
+line-same flows l figure other m e =
+    ⊎-elim (λ (p : l < flows). line-used flows l figure p ∙ filled-same mostFlows figure other l (omega arith) e ∙ sym (line-used flows l other p))
+    (λ (p : flows ≤ l). line-unused flows l figure p ∙ filled-same mostFlows figure other 0 (omega arith) (λ h q. absurd (omega arith)) ∙ sym (line-unused flows l other p))
+    (lt-or-ge l flows)
+
+-- LINES put while others are still read: those of a test hold their figures, any other is as it was. None yet, one more, and all
 abbrev pub used : ℕ → (ℕ → ℕ → ℕ) → ℕ → ℕ → ℕ
 used flows figure l h = cond (ltb l flows && ltb h l) (figure l h) 0
 
-pub record Lines (F : ℕ → ℕ → ℕ) (l : ℕ) (figures : List ℕ) : Type 0 where
+pub record Lines (F : ℕ → ℕ → ℕ) (old : List ℕ) (put : ℕ → Bool) (figures : List ℕ) : Type 0 where
   pub size : length figures ≡ figuresRoom
-  pub held : (k : ℕ) → k < mostFlows * l → getD figures k 0 ≡ F (k / mostFlows) (k % mostFlows)
+  pub held : (k : ℕ) → k < figuresRoom → put (k / mostFlows) ≡ true → getD figures k 0 ≡ F (k / mostFlows) (k % mostFlows)
+  pub left : (k : ℕ) → k < figuresRoom → put (k / mostFlows) ≡ false → getD figures k 0 ≡ getD old k 0
 
-pub lines-none : (F : ℕ → ℕ → ℕ) (figures : List ℕ) → length figures ≡ figuresRoom → Lines F 0 figures
-lines-none F figures size = record { size = size; held = λ k h. absurd (omega arith) }
+pub lines-none :
+    (F : ℕ → ℕ → ℕ) (put : ℕ → Bool) (figures : List ℕ)
+    → length figures ≡ figuresRoom
+    → ((j : ℕ) → j < mostFlows → put j ≡ false)
+    → Lines F figures put figures
+lines-none F put figures size none =
+    record { size = size; held = λ k b t. absurd (not-both t (none (k / mostFlows) (omega arith))); left = λ k b t. refl }
 
 pub lines-more :
-    (flows : ℕ) (figure : ℕ → ℕ → ℕ) (l : ℕ) (line before after : List ℕ)
+    (flows : ℕ) (figure : ℕ → ℕ → ℕ) (old : List ℕ) (put more : ℕ → Bool) (l : ℕ) (line before after : List ℕ)
     → line ≡ lineBy flows l (figure l)
     → LinePut l line before after
-    → Lines (used flows figure) l before
-    → Lines (used flows figure) (l + 1) after
-lines-more flows figure l line before after is p s =
+    → more l ≡ true
+    → ((j : ℕ) → (j ≡ l → ⊥) → more j ≡ put j)
+    → Lines (used flows figure) old put before
+    → Lines (used flows figure) old more after
+lines-more flows figure old put more l line before after is p new others s =
     record {
       size = p .size ∙ s .size;
-      held = λ k h. ⊎-elim (λ (q : k < mostFlows * l). p .below k q ∙ s .held k q) (λ (q : mostFlows * l ≤ k). new k q (omega arith)) (lt-or-ge k (mostFlows * l));
+      held =
+          λ k b t.
+          ⊎-elim (λ (e : eqb (k / mostFlows) l ≡ true). here k (eqb-true _ _ e))
+          (λ (e : eqb (k / mostFlows) l ≡ false). same k (eqb-false _ _ e) ∙ s .held k b (sym (others _ (eqb-false _ _ e)) ∙ t))
+          (bool-cases (eqb (k / mostFlows) l));
+      left = λ k b t. let d = other k t in same k d ∙ s .left k b (sym (others _ d) ∙ t);
     }
   where
-    new : (k : ℕ) → mostFlows * l ≤ k → k < mostFlows * l + mostFlows → getD after k 0 ≡ used flows figure (k / mostFlows) (k % mostFlows)
-    new k q h =
+    other : (k : ℕ) → more (k / mostFlows) ≡ false → k / mostFlows ≡ l → ⊥
+    other k t e = not-both new (rw e at t)
+
+    same : (k : ℕ) → (k / mostFlows ≡ l → ⊥) → getD after k 0 ≡ getD before k 0
+    same k d =
+        ⊎-elim (λ (q : k < mostFlows * l). p .below k q) (λ (q : mostFlows * l ≤ k). p .past k (omega (arith, d))) (lt-or-ge k (mostFlows * l))
+
+    here : (k : ℕ) → k / mostFlows ≡ l → getD after k 0 ≡ used flows figure (k / mostFlows) (k % mostFlows)
+    here k e =
         let place : k ≡ mostFlows * l + k % mostFlows = omega arith in
-        let here : k / mostFlows ≡ l = omega arith in
         ap (λ (i : ℕ). getD after i 0) place
         ∙ p .here (k % mostFlows) (omega arith)
-        ∙ rw (is, here) (line-figure flows l (figure l) (k % mostFlows))
+        ∙ rw (is, e) (line-figure flows l (figure l) (k % mostFlows))
 
-pub lines-all : (F : ℕ → ℕ → ℕ) (figures : List ℕ) → Lines F mostFlows figures → figures ≡ square F
-lines-all F figures s = square-held F figures (s .size) (s .held)
+pub lines-all : (F : ℕ → ℕ → ℕ) (old : List ℕ) (put : ℕ → Bool) (figures : List ℕ) → ((j : ℕ) → j < mostFlows → put j ≡ true) → Lines F old put figures → figures ≡ square F
+lines-all F old put figures all s = square-held F figures (s .size) (λ k h. s .held k (omega arith) (all (k / mostFlows) (omega arith)))
+
+-- a figure of a line that was not put is the one it was
+pub line-left :
+    (F : ℕ → ℕ → ℕ) (old : List ℕ) (put : ℕ → Bool) (figures : List ℕ) (l h : ℕ)
+    → Lines F old put figures
+    → l < mostFlows
+    → h < mostFlows
+    → put l ≡ false
+    → figureIn figures l h ≡ figureIn old l h
+unfolding figureIn
+line-left F old put figures l h s p q t =
+    let at : (mostFlows * l + h) / mostFlows ≡ l = omega arith in s .left (mostFlows * l + h) (omega arith) (ap put at ∙ t)
+
+-- the lines above l and one more
+pub one-more : (l j : ℕ) → (j ≡ l → ⊥) → ltb j (l + 1) ≡ ltb j l
+one-more l j d =
+    ⊎-elim (λ (p : j < l). lt-ltb j (l + 1) (omega arith) ∙ sym (lt-ltb j l p)) (λ (p : l ≤ j). le-ltb j (l + 1) (omega (arith, d)) ∙ sym (le-ltb j l p))
+    (lt-or-ge j l)
 
 -- THE FIGURES of a book: the square of its used lines, each a byte
 pub figures-square :

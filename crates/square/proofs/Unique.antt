@@ -10,6 +10,10 @@ use Rattle.square.proofs.kept.put_line.Reads as put-line
 use Rattle.square.proofs.kept.keep.Reads as keep
 use Rattle.square.proofs.kept.kept_answer.Kinds as kept-answer-kinds
 use Rattle.square.proofs.kept.kept_answer.Reads as kept-answer
+use Rattle.square.proofs.carried.pairs_at.Kinds as pairs-at-kinds
+use Rattle.square.proofs.carried.pairs_at.Reads as pairs-at
+use Rattle.square.proofs.carried.line_with.Kinds as line-with-kinds
+use Rattle.square.proofs.carried.line_with.Reads as line-with
 use Rattle.square.proofs.carried.figures_in.Reads as figures-in
 use Rattle.square.proofs.carried.figures_out.Reads as figures-out
 
@@ -25,8 +29,14 @@ keep-unique κs a r r' s s' p q = one-result p q
 pub kept-answer-unique : OneResult 4 kept-answer-kinds.ps kept-answer-kinds.r kept-answer.Post
 kept-answer-unique κs a r r' s s' p q = one-result p q
 
-pub figures-in-unique : (κs : _) (a : _) (r r' : _) (s s' : _) → figures-in.Post κs a r s → figures-in.Post κs a r' s' → now (s .1 .1 .1 .1 .1 .1 .0) ≡ now (s' .1 .1 .1 .1 .1 .1 .0)
+pub pairs-at-unique : OneResult 3 pairs-at-kinds.ps pairs-at-kinds.r pairs-at.Post
+pairs-at-unique κs a r r' s s' p q = one-result p q
+
+pub line-with-unique : OneResult 2 line-with-kinds.ps line-with-kinds.r line-with.Post
+line-with-unique κs a r r' s s' p q = one-result p q
+
+pub figures-in-unique : (κs : _) (a : _) (r r' : _) (s s' : _) → figures-in.Post κs a r s → figures-in.Post κs a r' s' → now (s .1 .1 .1 .0) ≡ now (s' .1 .1 .1 .0)
 figures-in-unique κs a r r' s s' p q = one-result p q
 
-pub figures-out-unique : (κs : _) (a : _) (r r' : _) (s s' : _) → figures-out.Post κs a r s → figures-out.Post κs a r' s' → now (s .1 .1 .1 .0) ≡ now (s' .1 .1 .1 .0)
+pub figures-out-unique : (κs : _) (a : _) (r r' : _) (s s' : _) → figures-out.Post κs a r s → figures-out.Post κs a r' s' → now (s .1 .1 .0) ≡ now (s' .1 .1 .0)
 figures-out-unique κs a r r' s s' p q = one-result p q

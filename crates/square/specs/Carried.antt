@@ -4,7 +4,7 @@ use Prim.Native.Nat.{ℕ, suc, _+_, _-_, _*_, _≤_, _<_}
 use mathlib.Core.Path.{_≡_}
 use mathlib.Core.Bool.{cond, _&&_}
 use mathlib.Core.List.{List}
-use lib.Dec.{ltb}
+use lib.Dec.{eqb, ltb}
 use lib.ListN.{length, getD}
 use Rattle.trade.specs.Limits.{mostFlows}
 use Rattle.trade.specs.First.{listTo}
@@ -50,6 +50,27 @@ pub record OldFigures (flows place : ℕ) (rows records steps old : List ℕ) : 
       → (l ≡ place → ⊥)
       → (h ≡ place → ⊥)
       → figureIn old (beforeIn place l) (beforeIn place h) ≡ interference (factsIn 0 0 rows records steps) l h
+
+-- the figure of the flow at a place and another: what one above it costs it, or it one below
+unfoldable pub pairIn : Facts → ℕ → ℕ → ℕ
+pairIn f place i = cond (ltb i place) (interference f place i) (cond (eqb i place) 0 (interference f i place))
+
+-- with each of so many flows
+abbrev pub pairsOf : ℕ → Facts → ℕ → List ℕ
+pairsOf flows f place = padded mostFlows (listTo (pairIn f place) flows)
+
+-- the figure of l and h where a flow has come in at a place: a newcomer's from its pairs, any other from where it stood
+unfoldable pub figureWith : ℕ → List ℕ → List ℕ → ℕ → ℕ → ℕ
+figureWith place pairs old l h =
+    cond (eqb l place) (getD pairs h 0) (cond (eqb h place) (getD pairs l 0) (figureIn old (beforeIn place l) (beforeIn place h)))
+
+-- those of a table into which a flow has come at a place, of so many with it, every other zero
+unfoldable pub withFigures : ℕ → ℕ → List ℕ → List ℕ → List ℕ
+withFigures flows place pairs old = square (λ l h. cond (ltb l flows && ltb h l) (figureWith place pairs old l h) 0)
+
+-- line l of it
+abbrev pub inLine : ℕ → ℕ → List ℕ → List ℕ → ℕ → List ℕ
+inLine flows place pairs old l = padded mostFlows (listTo (figureWith place pairs old l) (cond (ltb l flows) l 0))
 
 -- line l where the flow at a place has gone, of so many flows that are left: its figures taken from where they stood
 abbrev pub outLine : ℕ → ℕ → List ℕ → ℕ → List ℕ

@@ -14,7 +14,7 @@ use Rattle.trade.specs.Exchange.{recut}
 use Rattle.trade.specs.Calls.{Adding, withFlow, newRules, addOf}
 use Rattle.trade.specs.declared.answer.Answer.{Answer}
 use Rattle.changes.specs.Moved.{coming, Coming}
-use Rattle.rules.proofs.RulesLaws.{with-copy, leaves, askAnswer, enter-asked, add-asked, add-new}
+use Rattle.rules.proofs.RulesLaws.{leaves, askAnswer, enter-asked, add-asked, add-new}
 use Rattle.changes.proofs.EnteringLaws.{Enters, enter-comes, enter-made}
 use borrow.Author.Needs.{needs}
 use Rattle.changes.proofs.entering.enter.Statement.{statement}
@@ -24,7 +24,7 @@ use Rattle.changes.proofs.entering.enter.Tie as tie
 abbrev asked : tie.Start → Adding
 asked s =
     record {
-      table = tabled (s .args .nodes) (now (s .args .flows)) (now (s .args .rows)) (now (s .args .records)) (now (s .args .steps)) (now (s .args .old));
+      table = tabled (s .args .nodes) (now (s .args .flows)) (now (s .args .rows)) (now (s .args .records)) (now (s .args .steps)) (now (s .args .figures));
       place = s .args .place;
       flow = s .args .flow;
       plan = s .args .plan;
@@ -38,16 +38,16 @@ two s = search needs
 
 -- the old table and the place have been tested
 abbrev placed : tie.After-old-answer → tie.After-enter-answer
-placed c = c .before .before .before .before
+placed c = c .before .before .before .before .before
 
 abbrev start : tie.After-old-answer → tie.Start
-start c = placed c .before .before .before .before .before .before .before
+start c = placed c .before .before .before .before .before .before
 
 asks : (c : tie.After-old-answer) → c .old-answer .result ≡ askAnswer (asked (start c))
 asks c = c .old-answer .ensures ∙ enter-asked (asked (start c)) (placed c .enter-answer .ensures)
 
 old-answer-requires : tie.Need-old-answer-requires
-old-answer-requires c κs = c .before .before .before .before .before .before .before .before .before .before .pre .0
+old-answer-requires c κs = c .before .before .before .before .before .before .before .before .before .before .pre
 
 returns : tie.Need-returns
 unfolding addOf
@@ -55,7 +55,7 @@ returns c =
     let tested = c .before .before in
     let e = asks tested ∙ sym (add-asked (asked (start tested)) (λ z. c .if1 .taken (ap (λ (r : Answer). r .code) (asks tested) ∙ z))) in
     let s = start tested in
-    record { answer = e; table = with-copy (asked s .table) _ (s .pre .1) ∙ leaves _ _ _ _ e (c .if1 .taken) }
+    record { answer = e; table = leaves _ _ _ _ e (c .if1 .taken) }
 
 -- so the flow may come in
 abbrev tested : tie.After-record-bytes → tie.After-old-answer
@@ -67,7 +67,7 @@ begun c = start (tested c)
 enters : (c : tie.After-record-bytes) → Enters (asked (begun c))
 enters c =
     record {
-      memory = begun c .pre .0;
+      memory = begun c .pre;
       plan = places (begun c);
       len = two (begun c);
       asked = sym (ap (λ (r : Answer). r .code) (asks (tested c))) ∙ c .before .before .if1 .left;
@@ -101,7 +101,7 @@ slice-aggregate-flow-in-2 c =
     sym (length-take-le _ _ (omega (arith, places (begun b), b .before .places-taken .ensures)))
 
 flow-in-requires : tie.Need-flow-in-requires
-flow-in-requires c κs = let b = c .before .before .before .before .before .before .before in (comes b, begun b .pre .1)
+flow-in-requires c κs = let b = c .before .before .before .before .before .before .before in comes b
 
 returns-2 : tie.Need-returns-2
 unfolding addOf
@@ -119,6 +119,6 @@ returns-2 c =
 pub enter-spec : {M : Type 1} → statement M
 enter-spec =
     tie.close (tie.spec (λ c κs. search needs) old-answer-requires (λ c. search needs) (λ c. search needs)
-    (λ c. search needs) returns (λ c κs. search needs) (λ c. search needs) (λ c κs. search needs) (λ c. search needs)
+    (λ c. search needs) (λ c. search needs) returns (λ c κs. search needs) (λ c. search needs) (λ c κs. search needs) (λ c. search needs)
     array-borrow-prefix-taken slice-aggregate-flow-in-2 flow-in-requires (λ c. search needs) (λ c. search needs) (λ c. search needs)
     (λ c. search needs) returns-2)

@@ -27,21 +27,21 @@ use Rattle.changes.proofs.entering.flow_in.Tie as tie
 
 -- the table as it was, and with the flow
 abbrev old : tie.Start → Tabled
-old s = tabled (s .args .nodes) (now (s .args .flows)) (now (s .args .rows)) (now (s .args .records)) (now (s .args .steps)) (now (s .args .old))
+old s = tabled (s .args .nodes) (now (s .args .flows)) (now (s .args .rows)) (now (s .args .records)) (now (s .args .steps)) (now (s .args .figures))
 
 abbrev new : tie.Start → Sections
 new s = recut (used (old s .sections)) (coming (s .args .place) (now (s .args .flow)) (now (s .args .plan)))
 
 -- where its steps begin and all steps end
 abbrev start : tie.After-steps-before2 → tie.Start
-start c = c .before .before .before .before .before .before .before .before .before .before .before .before
+start c = c .before .before .before .before .before .before .before .before .before .before .before
 
 first : (c : tie.After-steps-before2) → stepBytes * c .before .before .steps-before .result ≤ stepBytes * c .steps-before2 .result
 first c =
     let s = start c in
     omega (
       arith,
-      step-first (old s) (s .args .place) (now (s .args .flow)) (now (s .args .plan)) (s .pre .0),
+      step-first (old s) (s .args .place) (now (s .args .flow)) (now (s .args .plan)) (s .pre),
       c .before .before .steps-before .ensures .0,
       c .steps-before2 .ensures .0,
     )
@@ -51,14 +51,14 @@ room c =
     let s = start c in
     omega (
       arith,
-      step-room (old s) (s .args .place) (now (s .args .flow)) (now (s .args .plan)) (s .pre .0),
+      step-room (old s) (s .args .place) (now (s .args .flow)) (now (s .args .plan)) (s .pre),
       c .steps-before2 .ensures .0,
     )
 
 put-in-requires-2 : tie.Need-put-in-requires-2
 put-in-requires-2 c κs =
     let b = c .before .before .before .before .before .before .before .before .before in
-    (omega (arith, start b .pre .0 .planned), first b, room b)
+    (omega (arith, start b .pre .planned), first b, room b)
 
 -- its record and its steps are in
 abbrev summed : tie.After-put-in2 → tie.After-steps-before2
@@ -79,7 +79,7 @@ is-new :
 is-new c =
     let b = summed c in
     let s = start b in
-    with-it (old s) (s .args .place) (now (s .args .flow)) (now (s .args .plan)) (s .pre .0) (b .before .before .steps-before .result)
+    with-it (old s) (s .args .place) (now (s .args .flow)) (now (s .args .plan)) (s .pre) (b .before .before .steps-before .result)
     (b .steps-before2 .result) (recorded c .put-in .last .0) (c .put-in2 .last .0) (b .before .before .steps-before .ensures .0)
     (b .steps-before2 .ensures .0) (recorded c .put-in .ensures .0) (c .put-in2 .ensures .0)
 
@@ -87,11 +87,11 @@ used-answer-requires : tie.Need-used-answer-requires
 used-answer-requires c κs =
     let b = c .before .before .before .before .before .before .before .before in
     let s = begun b in (
-      transport (λ i. New (sym (is-new b) i)) (new-tested (old s) (s .args .place) (now (s .args .flow)) (now (s .args .plan)) (s .pre .0)),
+      transport (λ i. New (sym (is-new b) i)) (new-tested (old s) (s .args .place) (now (s .args .flow)) (now (s .args .plan)) (s .pre)),
       (
         omega (arith, b .put-in2 .kept .0, room (summed b)),
-        transport (λ i. Carried (sym (is-new b) i) (s .args .place) (now (s .args .old)) (now (s .args .figures)))
-            (new-carried (old s) (s .args .place) (now (s .args .flow)) (now (s .args .plan)) (s .pre .0) (now (s .args .figures)) (s .pre .1)),
+        transport (λ i. Carried (sym (is-new b) i) (s .args .place) (now (s .args .figures)))
+            (new-carried (old s) (s .args .place) (now (s .args .flow)) (now (s .args .plan)) (s .pre)),
       ),
     )
 
@@ -101,10 +101,10 @@ tested c = c .before .before .before .before .before .before .before .before .be
 answers : (c : tie.After-used-answer) → c .used-answer .result ≡ firstOf newRules noNumber (new (begun (tested c)))
 answers c = c .used-answer .ensures .answer ∙ ap (firstOf newRules noNumber) (is-new (tested c))
 
-figures : (c : tie.After-used-answer) → c .used-answer .last .1 .1 .1 .1 .1 .1 .1 .1 .0 ≡ cond (isDone (c .used-answer .result)) (figuresOf (factsOf (new (begun (tested c))))) (now (begun (tested c) .args .old))
+figures : (c : tie.After-used-answer) → c .used-answer .last .1 .1 .1 .1 .1 .1 .1 .0 ≡ cond (isDone (c .used-answer .result)) (figuresOf (factsOf (new (begun (tested c))))) (now (begun (tested c) .args .figures))
 figures c =
     c .used-answer .ensures .figures
-    ∙ ap (λ (t : Sections). cond (isDone (c .used-answer .result)) (figuresOf (factsOf t)) (now (begun (tested c) .args .old))) (is-new (tested c))
+    ∙ ap (λ (t : Sections). cond (isDone (c .used-answer .result)) (figuresOf (factsOf t)) (now (begun (tested c) .args .figures))) (is-new (tested c))
 
 -- REFUSED, it is taken out again
 take-out-requires : tie.Need-take-out-requires
@@ -112,16 +112,16 @@ take-out-requires c κs =
     let b = tested (c .before .before .before .before .before .before) in
     let s = begun b in
     let p = recorded b .put-in in (
-      omega (arith, p .kept .1 .1 .1 .0, s .pre .0 .recorded),
-      omega (arith, s .pre .0 .within),
-      omega (arith, p .kept .0, p .kept .1 .1 .1 .0, s .pre .0 .recorded, s .pre .0 .room, s .pre .0 .old .memory .records),
+      omega (arith, p .kept .1 .1 .1 .0, s .pre .recorded),
+      omega (arith, s .pre .within),
+      omega (arith, p .kept .0, p .kept .1 .1 .1 .0, s .pre .recorded, s .pre .room, s .pre .old .memory .records),
     )
 
 take-out-requires-2 : tie.Need-take-out-requires-2
 take-out-requires-2 c κs =
     let b = tested (c .before .before .before .before .before .before .before .before .before .before .before .before .before) in
     let p = b .put-in2 in (
-      omega (arith, p .kept .1 .1 .1 .0, begun b .pre .0 .planned),
+      omega (arith, p .kept .1 .1 .1 .0, begun b .pre .planned),
       first (summed b),
       omega (arith, p .kept .0, p .kept .1 .1 .1 .0, room (summed b)),
     )
@@ -133,7 +133,7 @@ records-as-they-were : (c : tie.After-take-out) → c .take-out .last .0 ≡ now
 records-as-they-were c =
     let b = tested (refused c .before .before .before .before) in
     let a = begun b .args in
-    let p = begun b .pre .0 in
+    let p = begun b .pre in
     let put = recorded b .put-in in
     c .take-out .ensures
     ∙ out-again (recordBytes * a .place) (recordBytes * now (a .flows)) (now (a .flow)) (now (a .records)) (omega (arith, p .within))
@@ -171,29 +171,29 @@ returns c =
 
 -- DONE, nothing else is left
 cast-flows : tie.Need-cast-flows
-cast-flows c = omega (arith, begun (tested (c .before .before .before .before)) .pre .0 .room)
+cast-flows c = omega (arith, begun (tested (c .before .before .before .before)) .pre .room)
 
 mul-clear : tie.Need-mul-clear
-mul-clear c = omega (arith, begun (tested (c .before .before .before .before .before)) .pre .0 .old .nodes)
+mul-clear c = omega (arith, begun (tested (c .before .before .before .before .before)) .pre .old .nodes)
 
 clear-requires : tie.Need-clear-requires
 clear-requires c κs =
-    let p = begun (tested (c .before .before .before .before .before)) .pre .0 .old in
+    let p = begun (tested (c .before .before .before .before .before)) .pre .old in
     omega (arith, p .nodes, p .memory .rows)
 
 abbrev done : tie.After-clear → tie.Else1
 done c = c .before .before
 
 add-clear : tie.Need-add-clear
-add-clear c = omega (arith, begun (tested (done (c .before .before .before) .before .before .before .before)) .pre .0 .room)
+add-clear c = omega (arith, begun (tested (done (c .before .before .before) .before .before .before .before)) .pre .room)
 
 mul-clear-2 : tie.Need-mul-clear-2
-mul-clear-2 c = omega (arith, begun (tested (done (c .before .before .before) .before .before .before .before)) .pre .0 .room)
+mul-clear-2 c = omega (arith, begun (tested (done (c .before .before .before) .before .before .before .before)) .pre .room)
 
 clear-requires-2 : tie.Need-clear-requires-2
 clear-requires-2 c κs =
     let b = tested (done (c .before .before .before) .before .before .before .before) in
-    let p = begun b .pre .0 in
+    let p = begun b .pre in
     omega (arith, recorded b .put-in .kept .0, p .room, p .old .memory .records)
 
 clear-requires-3 : tie.Need-clear-requires-3
@@ -210,9 +210,9 @@ returns-2 c =
     let asked = done first .before .before .before .before in
     let b = tested asked in
     let s = begun b in
-    let m = s .pre .0 .old .memory in
+    let m = s .pre .old .memory in
     let sections-new =
-    cleared _ (new s) _ _ _ _ _ _ (is-new b) (new-no-more (old s) (s .args .place) (now (s .args .flow)) (now (s .args .plan)) (s .pre .0))
+    cleared _ (new s) _ _ _ _ _ _ (is-new b) (new-no-more (old s) (s .args .place) (now (s .args .flow)) (now (s .args .plan)) (s .pre))
     (m .rows) (recorded b .put-in .kept .0 ∙ m .records) (b .put-in2 .kept .0 ∙ m .steps) (first .clear .ensures)
     (second .clear2 .ensures) (third .clear3 .ensures) in
     let figures-new = figures asked ∙ done-first (asked .used-answer .result) _ _ (done first .if1 .left) in

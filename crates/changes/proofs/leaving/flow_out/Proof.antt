@@ -18,18 +18,18 @@ use Rattle.changes.proofs.leaving.flow_out.Tie as tie
 
 -- the table as it was
 abbrev old : tie.Start → Tabled
-old s = tabled (s .args .nodes) (s .args .flows) (now (s .args .rows)) (now (s .args .records)) (now (s .args .steps)) (now (s .args .old))
+old s = tabled (s .args .nodes) (s .args .flows) (now (s .args .rows)) (now (s .args .records)) (now (s .args .steps)) (now (s .args .figures))
 
 -- where the flow's steps begin, where those behind them do, and where all end
 abbrev start : tie.After-steps-before3 → tie.Start
-start c = c .before .before .before .before .before .before .before .before .before .before .before
+start c = c .before .before .before .before .before .before .before .before .before .before
 
 first : (c : tie.After-steps-before3) → stepBytes * c .before .before .before .before .steps-before .result ≤ stepBytes * c .before .before .steps-before2 .result
 first c =
     let s = start c in
     omega (
       arith,
-      step-first (old s) (s .args .place) (s .pre .0),
+      step-first (old s) (s .args .place) (s .pre),
       c .before .before .before .before .steps-before .ensures .0,
       c .before .before .steps-before2 .ensures .0,
     )
@@ -37,12 +37,12 @@ first c =
 next : (c : tie.After-steps-before3) → stepBytes * c .before .before .steps-before2 .result ≤ stepBytes * c .steps-before3 .result
 next c =
     let s = start c in
-    omega (arith, step-next (old s) (s .args .place) (s .pre .0), c .before .before .steps-before2 .ensures .0, c .steps-before3 .ensures .0)
+    omega (arith, step-next (old s) (s .args .place) (s .pre), c .before .before .steps-before2 .ensures .0, c .steps-before3 .ensures .0)
 
 last : (c : tie.After-steps-before3) → stepBytes * c .steps-before3 .result ≤ length (now (start c .args .steps))
 last c =
     let s = start c in
-    omega (arith, step-room (old s) (s .args .place) (s .pre .0), c .steps-before3 .ensures .0)
+    omega (arith, step-room (old s) (s .args .place) (s .pre), c .steps-before3 .ensures .0)
 
 turn-requires-2 : tie.Need-turn-requires-2
 turn-requires-2 c κs =
@@ -69,11 +69,10 @@ clear-requires-3 c κs =
     omega (arith, d .turn2 .kept .0, first b, next b, last b)
 
 sub-figures-out : tie.Need-sub-figures-out
-sub-figures-out c = omega (arith, c .before .before .before .before .before .before .before .before .before .before .before .before .before .before .before .before .before .before .before .before .before .before .before .before .before .before .before .before .before .before .before .pre .0 .within)
+sub-figures-out c = omega (arith, c .before .before .before .before .before .before .before .before .before .before .before .before .before .before .before .before .before .before .before .before .before .before .before .before .before .before .before .before .before .before .pre .within)
 
 figures-out-requires : tie.Need-figures-out-requires
-figures-out-requires c κs =
-    let p = c .before .before .before .before .before .before .before .before .before .before .before .before .before .before .before .before .before .before .before .before .before .before .before .before .before .before .before .before .before .before .before .before .pre in (omega (arith, p .0 .within, p .0 .old .flows), p .0 .size, p .1)
+figures-out-requires c κs = (omega (arith, c .before .before .before .before .before .before .before .before .before .before .before .before .before .before .before .before .before .before .before .before .before .before .before .before .before .before .before .before .before .before .before .pre .within, c .before .before .before .before .before .before .before .before .before .before .before .before .before .before .before .before .before .before .before .before .before .before .before .before .before .before .before .before .before .before .before .pre .old .flows), c .before .before .before .before .before .before .before .before .before .before .before .before .before .before .before .before .before .before .before .before .before .before .before .before .before .before .before .before .before .before .before .pre .size)
 
 returns : tie.Need-returns
 unfolding keptOf
@@ -86,15 +85,15 @@ returns c =
     let records = steps .before .before .before .before in
     let b = summed steps in
     let s = start b in
-    let m = s .pre .0 .old .memory in
+    let m = s .pre .old .memory in
     let table =
     cleared _ (recut (used (old s .sections)) (leaving (s .args .place))) _ _ _ _ _ _
-    (without-it (old s) (s .args .place) (s .pre .0) (b .before .before .before .before .steps-before .result) (b .before .before .steps-before2 .result)
+    (without-it (old s) (s .args .place) (s .pre) (b .before .before .before .before .steps-before .result) (b .before .before .steps-before2 .result)
     (b .steps-before3 .result) (records .turn .last .0) (steps .turn2 .last .0) (b .before .before .before .before .steps-before .ensures .0)
     (b .before .before .steps-before2 .ensures .0) (b .steps-before3 .ensures .0) (records .turn .ensures) (steps .turn2 .ensures))
-    (left-no-more (old s) (s .args .place) (s .pre .0)) (m .rows) (records .turn .kept .0 ∙ m .records) (steps .turn2 .kept .0 ∙ m .steps)
+    (left-no-more (old s) (s .args .place) (s .pre)) (m .rows) (records .turn .kept .0 ∙ m .records) (steps .turn2 .kept .0 ∙ m .steps)
     (first .clear .ensures) (second .clear2 .ensures) (third .clear3 .ensures) in
-    let figures = carried .figures-out .ensures ∙ left-figures (old s) (s .args .place) (s .pre .0) in
+    let figures = carried .figures-out .ensures ∙ left-figures (old s) (s .args .place) (s .pre) in
     λ i. record { sections = table i; figures = figures i }
 
 pub flow-out-spec : {M : Type 1} → statement M

@@ -1,75 +1,74 @@
--- `square::carried::figures_in` puts line by line. The loop's invariant: the first l lines hold their figures. The measure is how many are
--- left. Assumes nothing.
-use Prim.Native.Nat.{_-_, _≤_}
-use mathlib.Core.Path.{_≡_, refl, sym, _∙_}
+-- `square::carried::figures_in` puts line by line, from the last one up. The loop's invariant: the lines from l on hold their figures, and those above
+-- are as they were. The measure is how many are left. Assumes nothing.
+use Prim.Native.Nat.{ℕ, _+_, _-_, _≤_}
+use mathlib.Core.Path.{_≡_, sym, _∙_, ap}
+use mathlib.Core.Bool.{not}
 use denote.Ref.{now}
 use native.Mathlib.Omega.{arith}
+use borrow.Author.Tests.{lt-ltb, le-ltb}
+use lib.Dec.{ltb}
 use Rattle.trade.specs.Limits.{mostFlows}
-use Rattle.trade.specs.Facts.{factsIn}
-use Rattle.trade.specs.Interference.{interference}
-use Rattle.pairs.proofs.SpreadLaws.{zeros}
-use Rattle.figures.proofs.FiguresLaws.{all-heard}
-use Rattle.square.proofs.KeptLaws.{used, Lines, lines-none, lines-more, lines-all, figures-square, figures-bytes}
+use Rattle.square.specs.Carried.{figureWith, inLine, withFigures}
+use Rattle.square.proofs.KeptLaws.{line-bytes, used, Lines, lines-none, lines-more, lines-all, one-more}
+use Rattle.square.proofs.CarriedLaws.{with-bytes, with-in}
 use Rattle.square.proofs.carried.figures_in.Statement.{statement}
 use Rattle.square.proofs.carried.figures_in.Tie as tie
 
 abbrev Inv-loop : tie.InvT-loop
-Inv-loop flows rows records steps place old figures₀ heard l₀ figures l =
-    (l ≤ mostFlows) × Lines (used flows (interference (factsIn 0 0 rows records steps))) l figures
+Inv-loop flows place pairs figures₀ l₀ figures l =
+    (l ≤ mostFlows) × Lines (used flows (figureWith place pairs figures₀)) figures₀ (λ j. not (ltb j l)) figures
 
 abbrev μ-loop : tie.MeasureT-loop
-μ-loop flows rows records steps place old figures₀ heard l₀ figures l = mostFlows - l
-
-hear-above-requires : tie.Need-hear-above-requires Inv-loop μ-loop
-hear-above-requires c κs = (c .before .before .before .before .before .before .pre .0, (refl, λ y h. zeros 64 y))
+μ-loop flows place pairs figures₀ l₀ figures l = l
 
 loop-holds : tie.Need-loop-holds Inv-loop μ-loop
-loop-holds c = (omega arith, lines-none _ _ (c .before .before .before .before .before .before .before .before .pre .2))
-
-slice-aggregate-line-in : tie.Need-slice-aggregate-line-in Inv-loop μ-loop
-slice-aggregate-line-in c = sym (c .before .before .before .before .hear-above .ensures .size)
+loop-holds c = (omega arith, lines-none _ _ _ (c .before .pre .0) (λ j h. ap not (lt-ltb j mostFlows h)))
 
 line-in-requires : tie.Need-line-in-requires Inv-loop μ-loop
-line-in-requires c κs =
-    let s = c .before .before .before .before .before .before .before .before .before .before .before in
-    let a = s .args in
-    let heard = c .before .before .before .before .hear-above .ensures in (
-      (s .pre .0, omega arith, s .pre .1),
-      (omega (arith, heard .size), λ p. all-heard (a .flows) (c .before .before .loop .l) (now (a .rows)) (now (a .records)) (now (a .steps)) _ (s .pre .0) p heard),
-    )
+line-in-requires c κs = (c .before .before .loop .inv .1 .size, omega (arith, c .before .before .loop .inv .0, c .before .loop-test .taken))
+
+-- the line that is read is the one of before
+line : (c : tie.After-line-in Inv-loop μ-loop) → c .line-in .result ≡ inLine (c .before .before .before .before .before .args .flows) (c .before .before .before .before .before .args .place) (now (c .before .before .before .before .before .args .pairs)) (now (c .before .before .before .before .before .args .figures)) (c .before .before .before .loop .l - 1)
+line c =
+    let a = c .before .before .before .before .before .args in
+    let loop = c .before .before .before .loop in
+    c .line-in .ensures
+    ∙ with-in _ (a .flows) (a .place) (now (a .pairs)) (now (a .figures)) (λ j. not (ltb j (loop .l))) (loop .figures) (loop .l - 1) (loop .inv .1)
+    (omega (arith, loop .inv .0, c .before .before .loop-test .taken)) (λ j h. ap not (lt-ltb j (loop .l) (omega (arith, c .before .before .loop-test .taken))))
 
 put-line-requires : tie.Need-put-line-requires Inv-loop μ-loop
 put-line-requires c κs =
-    let s = c .before .before .before .before .before .before .before .before .before .before .before .before .before .before in
-    let a = s .args in
+    let a = c .before .before .before .before .before .before .before .args in
     let loop = c .before .before .before .before .before .loop in (
       loop .inv .1 .size,
-      omega arith,
+      omega (arith, loop .inv .0, c .before .before .before .before .loop-test .taken),
       λ h p.
-          rw (c .before .before .line-in .ensures)
-          (figures-bytes (a .flows) (now (a .rows)) (now (a .records)) (now (a .steps)) (s .pre .0) (loop .l) h),
+          rw (line (c .before .before))
+          (line-bytes (a .flows) (loop .l - 1) _ (λ q k b. with-bytes (a .place) (now (a .pairs)) (now (a .figures)) (c .before .before .before .before .before .before .before .pre .1) (λ i. omega (arith, c .before .before .before .before .before .before .slice-known .given i)) (loop .l - 1) k) h),
     )
 
 loop-again : tie.Need-loop-again Inv-loop μ-loop
 loop-again c =
-    let a = c .before .before .before .before .before .before .before .before .before .before .before .before .before .before .before .before .before .args in
-    let loop = c .before .before .before .before .before .before .before .before .loop in (
-      omega arith,
-      lines-more (a .flows) (interference (factsIn 0 0 (now (a .rows)) (now (a .records)) (now (a .steps)))) (loop .l) _ (loop .figures) _ (c .before .before .before .before .before .line-in .ensures)
-          (c .before .before .put-line .ensures) (loop .inv .1),
+    let a = c .before .before .before .before .before .before .before .before .before .before .args in
+    let loop = c .before .before .before .before .before .before .before .before .loop in
+    let l : ℕ = loop .l - 1 in
+    let one : loop .l ≡ l + 1 = omega (arith, c .before .before .before .before .before .before .before .loop-test .taken) in (
+      omega (arith, loop .inv .0),
+      lines-more (a .flows) (figureWith (a .place) (now (a .pairs)) (now (a .figures))) _ (λ j. not (ltb j (loop .l))) (λ j. not (ltb j l)) l _ (loop .figures) _
+          (line (c .before .before .before .before .before)) (c .before .before .put-line .ensures) (ap not (le-ltb l l (omega arith)))
+          (λ j d. ap not (sym (one-more l j d) ∙ ap (ltb j) (sym one))) (loop .inv .1),
     )
 
 same-length : tie.Need-same-length Inv-loop μ-loop
-same-length c = c .before .loop .inv .1 .size ∙ sym (c .before .before .before .before .before .before .before .before .before .before .pre .2)
+same-length c = c .before .loop .inv .1 .size ∙ sym (c .before .before .before .pre .0)
 
 returns : tie.Need-returns Inv-loop μ-loop
+unfolding withFigures
 returns c =
-    let a = c .before .before .before .before .before .before .before .before .before .before .args in
     let loop = c .before .loop in
-    let all : loop .l ≡ mostFlows = omega (arith, loop .inv .0) in
-    lines-all _ (loop .figures) (rw all at (loop .inv .1)) ∙ figures-square (a .flows) (now (a .rows)) (now (a .records)) (now (a .steps))
+    let none : loop .l ≡ 0 = omega (arith, c .loop-test .left) in
+    lines-all _ _ _ (loop .figures) (λ j h. ap not (le-ltb j 0 (omega arith))) (rw none at (loop .inv .1))
 
 pub figures-in-spec : {M : Type 1} → statement M
 figures-in-spec =
-    tie.close (tie.spec Inv-loop μ-loop (λ c. refl) hear-above-requires loop-holds slice-aggregate-line-in line-in-requires put-line-requires (λ c. omega arith)
-    (λ c. omega arith) loop-again same-length returns)
+    tie.close (tie.spec Inv-loop μ-loop loop-holds (λ c. omega arith) line-in-requires put-line-requires (λ c. omega arith) loop-again same-length returns)

@@ -1,4 +1,4 @@
--- `bounds::kept::kept_bound` meets its contract: the three arrays say what the records and the figures do. Assumes nothing.
+-- `bounds::kept::bound_with` meets its contract: the three arrays say what the records, the figures and the pairs do. Assumes nothing.
 use borrow.Author.Needs.{needs}
 use Prim.Native.Nat.{ℕ, _+_, _*_, _<_, _≤_}
 use mathlib.Core.Path.{_≡_, refl, _∙_, ap, ap₂}
@@ -8,35 +8,30 @@ use lib.ListN.{getD}
 use native.Mathlib.Omega.{arith}
 use Rattle.trade.specs.Limits.{mostFlows}
 use Rattle.trade.specs.Facts.{Facts, factsIn, factsOf, flowIn}
-use Rattle.trade.specs.Kept.{figureIn}
 use Rattle.trade.specs.declared.flow.Flow.{Flow}
-use Rattle.square.specs.Carried.{shifted}
-use Rattle.bounds.specs.Bounds.{byFigures}
+use Rattle.square.specs.Carried.{figureWith}
+use Rattle.bounds.specs.Bounds.{byCosts}
 use Rattle.bounds.specs.Terms.{neededIn, smallestIn}
 use Rattle.bounds.proofs.SmallestLaws.{bound-in}
-use Rattle.square.proofs.KeptLaws.{shifted-below}
+use Rattle.square.proofs.CarriedLaws.{with-bytes}
 use Rattle.figures.proofs.Padded.{filled-at}
-use Rattle.bounds.proofs.kept.kept_bound.Statement.{statement}
-use Rattle.bounds.proofs.kept.kept_bound.Tie as tie
+use Rattle.bounds.proofs.kept.bound_with.Statement.{statement}
+use Rattle.bounds.proofs.kept.bound_with.Tie as tie
 
 -- the figures of the flows above, which are bytes
 figure :
-    (c : tie.After-line-from)
+    (c : tie.After-line-with)
     → (h : ℕ)
     → h < c .before .before .before .before .args .l
-    → getD (c .line-from .result) h 0 ≡ figureIn (now (c .before .before .before .before .args .figures)) (c .before .before .before .before .args .l) h
+    → getD (c .line-with .result) h 0 ≡ figureWith (c .before .before .before .before .args .place) (now (c .before .before .before .before .args .pairs)) (now (c .before .before .before .before .args .figures)) (c .before .before .before .before .args .l) h
 figure c h b =
-    let s = c .before .before .before .before in
-    let a = s .args in
-    rw (c .line-from .ensures)
-    (filled-at mostFlows (λ (k : ℕ). figureIn (now (a .figures)) (a .l) (shifted mostFlows 0 0 k)) (a .l) h b
-    ∙ ap (figureIn (now (a .figures)) (a .l)) (shifted-below mostFlows 0 0 h (omega (arith, s .pre .0 .0 .most))))
+    let a = c .before .before .before .before .args in
+    rw (c .line-with .ensures) (filled-at mostFlows (figureWith (a .place) (now (a .pairs)) (now (a .figures)) (a .l)) (a .l) h b)
 
-byte-figure : (c : tie.After-line-from) → (h : ℕ) → h < c .before .before .before .before .args .l → getD (c .line-from .result) h 0 ≤ 255
-unfolding figureIn
+byte-figure : (c : tie.After-line-with) → (h : ℕ) → h < c .before .before .before .before .args .l → getD (c .line-with .result) h 0 ≤ 255
 byte-figure c h b =
     let a = c .before .before .before .before .args in
-    omega (arith, figure c h b, c .before .before .before .shared-slice-known .given (32 * a .l + h))
+    omega (arith, figure c h b, with-bytes (a .place) (now (a .pairs)) (now (a .figures)) (c .before .before .before .before .pre .0 .2) (λ k. omega (arith, c .before .before .shared-slice-known2 .given k)) (a .l) h)
 
 smallest-requires : tie.Need-smallest-requires
 unfolding flowIn
@@ -66,14 +61,14 @@ returns c =
     let a = s .args in
     let f : Facts = factsIn 0 0 [] (now (a .records)) [] in
     let w = c .before .before .before .before .before .record-at .ensures in
-    let line : List ℕ = c .before .before .before .before .line-from .result in
+    let line : List ℕ = c .before .before .before .before .line-with .result in
     c .smallest .ensures
     ∙ ap₂ (λ (own last : ℕ). smallestIn (neededIn own (a .l) line (now (a .periods)) (now (a .carries))) own last)
     (ap (λ (w : Flow). w .len) w) (ap (λ (w : Flow). w .deadline) w)
-    ∙ bound-in f (byFigures (now (a .figures)) (λ h. getD (now (a .carries)) h 0)) (a .l) line (now (a .periods)) (now (a .carries)) (figure (c .before .before .before .before))
+    ∙ bound-in f (byCosts (figureWith (a .place) (now (a .pairs)) (now (a .figures))) (λ h. getD (now (a .carries)) h 0)) (a .l) line (now (a .periods)) (now (a .carries)) (figure (c .before .before .before .before))
     (s .pre .1 .0) (λ h l. refl)
 
-pub kept-bound-spec : {M : Type 1} → statement M
-kept-bound-spec =
+pub bound-with-spec : {M : Type 1} → statement M
+bound-with-spec =
     tie.close (tie.spec (λ c κs. search needs) (λ c κs. search needs) (λ c. search needs) (λ c. search needs) smallest-requires
     returns)

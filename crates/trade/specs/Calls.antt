@@ -73,7 +73,7 @@ checkBy measured b =
       bounds = cond (isDone (checkAnswerBy measured b)) (boundsBy (said b) (measured (said b))) (replicate mostFlows 0);
     }
 
--- by the measure of interference and deadlines; the rules and the bounds have names for the proofs of check and start in code
+-- by the measure of interference and bounds; the rules and the bounds have names for the proofs of check and start in code
 abbrev pub checkRules : List (List ℕ → Answer)
 checkRules = checkRulesBy measure
 
@@ -213,7 +213,7 @@ startBy measured s =
       area = cond (isDone (startAnswerBy measured s)) (over (startArea (said (s .book))) (s .area)) (s .area);
     }
 
--- by the measure of interference and deadlines
+-- by the measure of interference and bounds
 abbrev pub startAnswer : Starting → Answer
 startAnswer = startAnswerBy measure
 

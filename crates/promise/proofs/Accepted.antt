@@ -10,10 +10,10 @@ use borrow.Author.Tests.{eqb-true, eqb-false, not-true}
 use Rattle.trade.specs.Limits.{mostFlows}
 use Rattle.trade.specs.First.{some, listTo}
 use Rattle.trade.specs.Facts.{Facts, factsOf, said}
-use Rattle.trade.specs.Kept.{Tabled, RightFigures}
+use Rattle.trade.specs.Kept.{Tabled, RightFigures, keptMeasure}
 use Rattle.trade.specs.Answers.{givenFirst, on, noNumber}
 use Rattle.trade.specs.Bound.{Measure, measure, Admissible, boundBy, boundlessBy, acceptedBy, code9By}
-use Rattle.trade.specs.Calls.{Checked, bookRules, tableRules, readAnswer, checkRulesBy, checkAnswerBy, boundsBy, checkBy, keptRules, checkKeptOf}
+use Rattle.trade.specs.Calls.{Checked, bookRules, tableRules, readAnswer, checkRulesBy, checkAnswerBy, boundsBy, checkBy, keptRulesBy, checkKeptOf, checkKeptBy}
 use Rattle.promise.specs.Demands.{Done, reported, AllBounded, DecidesBooks, WellFormed, DecidesTables}
 use Rattle.trade.specs.declared.answer.Answer.{Answer}
 use Rattle.trade.proofs.Sums.{length-listTo, getD-listTo}
@@ -30,11 +30,11 @@ use Rattle.promise.proofs.Sound.{Carries}
 
 -- the bounds of facts by a measure, as they are reported: zeros elsewhere
 module _ (f : Facts) (μ : Measure) where
-  listed-bound : (l : ℕ) → l < f .flows → getD (boundsBy f μ) l 0 ≡ boundBy f μ l
+  pub listed-bound : (l : ℕ) → l < f .flows → getD (boundsBy f μ) l 0 ≡ boundBy f μ l
   unfolding boundsBy
   listed-bound l h = byte-padded mostFlows (listTo (boundBy f μ) (f .flows)) l ∙ getD-listTo (boundBy f μ) (f .flows) l h
 
-  listed-elsewhere : (l : ℕ) → f .flows ≤ l → getD (boundsBy f μ) l 0 ≡ 0
+  pub listed-elsewhere : (l : ℕ) → f .flows ≤ l → getD (boundsBy f μ) l 0 ≡ 0
   unfolding boundsBy
   listed-elsewhere l h =
       byte-padded mostFlows (listTo (boundBy f μ) (f .flows)) l
@@ -130,6 +130,13 @@ module _ (measured : Facts → Measure) where
         places = by-definition (checkBy measured) _ places;
       }
 
+-- a table that its check accepts, by any measure, is well formed
+pub kept-formed : (measured : Tabled → Measure) (t : Tabled) → Done (checkKeptBy measured t .answer) → Passed (t .sections) tableRules
+unfolding checkKeptBy keptRulesBy
+kept-formed measured t c =
+    passed-look (λ (u : Tabled). u .sections) tableRules
+    (passed-first (on (λ (u : Tabled). u .sections) tableRules) _ (firstOf-passed _ noNumber t c))
+
 -- A TABLE WITH RIGHT FIGURES: where it is well formed, its check is code 9 by interference
 module _ (t : Tabled) (right : RightFigures t) where
   abbrev facts : Facts
@@ -138,20 +145,13 @@ module _ (t : Tabled) (right : RightFigures t) where
   right-answer : WellFormed (t .sections) → checkKeptOf t .answer ≡ code9By facts (measure facts)
   right-answer w = ap (λ (c : Checked). c .answer) (kept-right t (firstOf-passed tableRules noNumber (t .sections) w) right)
 
-  -- one that is accepted is well formed
-  form-passed : Done (checkKeptOf t .answer) → Passed (t .sections) tableRules
-  unfolding checkKeptOf keptRules
-  form-passed c =
-      passed-look (λ (u : Tabled). u .sections) tableRules
-      (passed-first (on (λ (u : Tabled). u .sections) tableRules) _ (firstOf-passed _ noNumber t c))
-
   module _ (c : Done (checkKeptOf t .answer)) where
     right-nine : Done (code9By facts (measure facts))
-    right-nine = sym (ap (λ (k : Checked). k .answer .code) (kept-right t (form-passed c) right)) ∙ c
+    right-nine = sym (ap (λ (k : Checked). k .answer .code) (kept-right t (kept-formed keptMeasure t c) right)) ∙ c
 
     right-reports : checkKeptOf t .bounds ≡ boundsBy facts (measure facts)
     right-reports =
-        ap (λ (k : Checked). k .bounds) (kept-right t (form-passed c) right) ∙ done-first (code9By facts (measure facts)) _ _ right-nine
+        ap (λ (k : Checked). k .bounds) (kept-right t (kept-formed keptMeasure t c) right) ∙ done-first (code9By facts (measure facts)) _ _ right-nine
 
     right-admissible : (l : ℕ) → l < facts .flows → Admissible facts (measure facts) l (boundBy facts (measure facts) l)
     unfolding code9By
@@ -163,12 +163,12 @@ module _ (t : Tabled) (right : RightFigures t) where
     right-bound l h = ap (λ (all : List ℕ). getD all l 0) right-reports ∙ listed-bound facts (measure facts) l h
 
   right-places : length (checkKeptOf t .bounds) ≡ mostFlows
-  unfolding checkKeptOf
+  unfolding checkKeptBy
   right-places =
       by-test (eqb (checkKeptOf t .answer .code) 0)
       (λ e.
       let c : Done (checkKeptOf t .answer) = eqb-true (checkKeptOf t .answer .code) 0 e in
-      ap length (right-reports c) ∙ listed-places facts (measure facts) (table-valid (t .sections) (form-passed c) .flows))
+      ap length (right-reports c) ∙ listed-places facts (measure facts) (table-valid (t .sections) (kept-formed keptMeasure t c) .flows))
       (λ e.
       ap length (refused-second (checkKeptOf t .answer) _ _ (eqb-false (checkKeptOf t .answer .code) 0 e))
       ∙ length-replicate {A = ℕ} mostFlows 0)

@@ -6,15 +6,15 @@ use mathlib.Core.List.{[], _∷_, _++_}
 use native.Mathlib.Omega.{arith}
 use borrow.Author.Tests.{eqb-false}
 use Rattle.trade.specs.Limits.{mostFlows}
-use Rattle.trade.specs.Facts.{factsOf}
+use Rattle.trade.specs.Facts.{Facts, factsOf}
 use Rattle.trade.specs.Layout.{Sections}
 use Rattle.trade.specs.Kept.{Tabled}
 use Rattle.trade.specs.Answers.{on, noNumber}
 use Rattle.trade.specs.Table.{used}
 use Rattle.trade.specs.Exchange.{recut}
 use Rattle.trade.specs.Codes.{badRow, code3, code5, code6, code8, code14}
-use Rattle.trade.specs.Bound.{measure}
-use Rattle.trade.specs.Calls.{Adding, tableRules, oldRules, withFlow, enterRules, newRules, addAnswer}
+use Rattle.trade.specs.Bound.{Measure, measure}
+use Rattle.trade.specs.Calls.{Adding, tableRules, oldRules, withFlow, enterRules, newRulesBy, addAnswer, addAnswerBy}
 use Rattle.trade.specs.declared.answer.Answer.{Answer}
 use Rattle.trade.proofs.Answers.{Passed, passed-none, passed-more, passed-head, passed-tail, passed-append, passed-first, passed-others, passed-look, passed-done, firstOf-passed, given-passed}
 use Rattle.trade.proofs.Valid.{Valid, table-valid, code3-passes}
@@ -28,10 +28,10 @@ pub old-form : (t : Tabled) → Passed t oldRules → Passed (t .sections) table
 unfolding oldRules
 old-form t p = passed-look (λ (u : Tabled). u .sections) tableRules (passed-first (on (λ (u : Tabled). u .sections) tableRules) _ p)
 
--- a table that add takes: the old table passed its rules, then the place did, and then the new table
-module _ (a : Adding) (e : Done (addAnswer a)) where
+-- a table that add takes, by any measure: the old table passed its rules, then the place did, and then the new table
+module _ (measured : Facts → Measure) (a : Adding) (e : Done (addAnswerBy measured a)) where
   pub kept-passed : Passed (a .table) oldRules
-  unfolding addAnswer
+  unfolding addAnswerBy
   kept-passed =
       passed-look (λ (x : Adding). x .table) oldRules
       (passed-first (on (λ (x : Adding). x .table) oldRules) _ (firstOf-passed _ noNumber a e))
@@ -39,12 +39,12 @@ module _ (a : Adding) (e : Done (addAnswer a)) where
   pub old-passed : Passed (a .table .sections) tableRules
   old-passed = old-form (a .table) kept-passed
 
-  pub others-passed : Passed a (enterRules ++ on withFlow newRules)
-  unfolding addAnswer
+  pub others-passed : Passed a (enterRules ++ on withFlow (newRulesBy measured))
+  unfolding addAnswerBy
   others-passed = passed-others (on (λ (x : Adding). x .table) oldRules) _ (firstOf-passed _ noNumber a e)
 
-  pub new-passed : Passed (withFlow a) newRules
-  new-passed = passed-look withFlow newRules (passed-others enterRules _ others-passed)
+  pub new-passed : Passed (withFlow a) (newRulesBy measured)
+  new-passed = passed-look withFlow (newRulesBy measured) (passed-others enterRules _ others-passed)
 
   -- the counts of the new table are within their limits: there was place for one more flow
   new-code3 : code3 (factsOf (withFlow a)) .code ≡ 0
@@ -63,15 +63,15 @@ module _ (a : Adding) (e : Done (addAnswer a)) where
 
   -- so what is put together passes the rules of a table,
   pub with-passes : Passed (withFlow a) tableRules
-  unfolding tableRules newRules
+  unfolding tableRules newRulesBy
   with-passes =
       passed-more new-code3 (passed-more new-code5 (passed-more (passed-head new-passed) (passed-more (passed-head (passed-tail new-passed)) passed-none)))
 
 -- A FLOW ENTERS exactly when every flow of the new table has a response bound within its deadline
 pub admits : (a : Adding) → Done (formAnswer a) → Done (addAnswer a) ↔ AllBounded (factsOf (withFlow a)) (measure (factsOf (withFlow a)))
-unfolding formAnswer addAnswer newRules on
+unfolding formAnswer addAnswerBy newRulesBy on
 admits a e = (
-  λ d. code9-exactly _ _ .0 (passed-head (passed-tail (passed-tail (new-passed a d)))),
+  λ d. code9-exactly _ _ .0 (passed-head (passed-tail (passed-tail (new-passed measure a d)))),
   λ b.
       ap (λ (r : Answer). r .code)
       (passed-done noNumber

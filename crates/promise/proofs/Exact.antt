@@ -15,7 +15,7 @@ use Rattle.trade.specs.Codes.{code15Removing}
 use Rattle.trade.specs.Interference.{IsInterference}
 use Rattle.trade.specs.Bound.{measure}
 use Rattle.trade.specs.Slot.{releasesOf, greedy}
-use Rattle.trade.specs.Calls.{Writing, Adding, Removing, bookRules, tableRules, oldRules, leaving, leaveRules, withFlow, withoutFlow, checkOf, checkKeptOf, readAnswer, writeAnswer, addAnswer, removeAnswer, startAnswer, readOf, writeOf, addOf, removeOf, startOf, startBy, advanceOf, advanceBy}
+use Rattle.trade.specs.Calls.{Writing, Adding, Removing, bookRules, tableRules, oldRules, leaving, leaveRules, withFlow, withoutFlow, checkOf, checkKeptOf, readAnswer, writeAnswer, addAnswer, removeAnswer, startAnswer, readOf, writeOf, addOf, addBy, removeOf, startOf, startBy, advanceOf, advanceBy}
 use Rattle.promise.specs.Demands.{Program, planner, Done, DecidesBooks, WellFormed, DecidesTables, Figured, Demand2}
 use Rattle.trade.proofs.Answers.{done-first, Passed, passed-head, passed-first, passed-others, passed-look, firstOf-passed, given-passed}
 use Rattle.trade.proofs.Valid.{table-valid, book-valid}
@@ -85,10 +85,10 @@ read-figures b e =
 
 -- of one that a flow has come into,
 add-figures : (a : Adding) → Done (addOf a .answer) → Figured (addOf a .table)
-unfolding addOf keptOf
+unfolding addBy keptOf
 add-figures a e =
     subst Figured (sym (done-first (addAnswer a) (keptOf (withFlow a)) (a .table) e))
-    (alike-figures (withFlow a) (tableOf (withFlow a)) (table-same (withFlow a)) (with-passes a e))
+    (alike-figures (withFlow a) (tableOf (withFlow a)) (table-same (withFlow a)) (with-passes measure a e))
 
 -- and of one that a flow has gone from
 remove-figures : (r : Removing) → InMemory (r .table .sections) → Done (removeOf r .answer) → Figured (removeOf r .table)
@@ -108,7 +108,7 @@ remove-figures r m e =
 
 -- DEMAND 2 is kept by the program that the definitions describe,
 pub planner-keeps-demand-2 : Demand2 planner
-unfolding readOf writeOf addOf removeOf startBy advanceBy isDone
+unfolding readOf writeOf addBy removeOf startBy advanceBy isDone
 planner-keeps-demand-2 =
     record {
       reads = by-definition readOf _ reads;

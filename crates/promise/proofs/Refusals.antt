@@ -1,6 +1,6 @@
 -- Demand 1, of the program that the definitions describe and so of every program that meets its contracts. Assumes nothing.
 use mathlib.Core.Path.{refl}
-use Rattle.trade.specs.Calls.{readOf, checkOf, checkBy, checkKeptOf, writeOf, addOf, removeOf, startOf, startBy, advanceOf, advanceBy}
+use Rattle.trade.specs.Calls.{readOf, checkOf, checkBy, checkKeptOf, checkKeptBy, writeOf, addOf, addBy, removeOf, startOf, startBy, advanceOf, advanceBy}
 use Rattle.promise.specs.Demands.{Program, planner, Demand1}
 use Rattle.trade.proofs.Answers.{refused-second}
 use Rattle.promise.specs.Promise.{Meets}
@@ -8,7 +8,7 @@ use Rattle.promise.proofs.Meets.{by-definition, by-meeting}
 
 -- DEMAND 1 is kept by the program that the definitions describe,
 pub planner-keeps-demand-1 : Demand1 planner
-unfolding readOf checkBy checkKeptOf writeOf addOf removeOf startBy advanceBy
+unfolding readOf checkBy checkKeptBy writeOf addBy removeOf startBy advanceBy
 planner-keeps-demand-1 =
     record {
       reads = by-definition readOf _ (λ b. refl);

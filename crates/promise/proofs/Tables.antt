@@ -10,8 +10,8 @@ use Rattle.trade.specs.Facts.{factsOf}
 use Rattle.trade.specs.Table.{bookOf, tableOf}
 use Rattle.trade.specs.Kept.{Tabled, figureIn, figuresOf, keptOf, RightFigures}
 use Rattle.trade.specs.Answers.{done}
-use Rattle.trade.specs.Bound.{code9}
-use Rattle.trade.specs.Calls.{Written, Adding, Changed, tableRules, withFlow, newRules, addAnswer, boundsOf, readOf, checkOf, checkKeptOf, writeOf, addOf}
+use Rattle.trade.specs.Bound.{measure, code9}
+use Rattle.trade.specs.Calls.{Written, Adding, Changed, tableRules, withFlow, newRulesBy, addAnswer, boundsOf, readOf, checkOf, checkKeptOf, writeOf, addOf, addBy}
 use Rattle.trade.specs.declared.answer.Answer.{Answer}
 use Rattle.trade.proofs.Bytes.{take-over}
 use Rattle.trade.proofs.Answers.{done-first, Passed, passed-head, passed-tail}
@@ -33,27 +33,27 @@ module _ (a : Adding) (e : Done (addAnswer a)) where
   table = tableOf (withFlow a)
 
   added : addOf a .table ≡ keptOf (withFlow a)
-  unfolding addOf
+  unfolding addBy
   added = done-first (addAnswer a) _ _ e
 
   table-passes : Passed table tableRules
-  table-passes = alike-passed (withFlow a) table (table-same (withFlow a)) (with-passes a e)
+  table-passes = alike-passed (withFlow a) table (table-same (withFlow a)) (with-passes measure a e)
 
   table-holds : Holds table
   table-holds =
-      in-memory-holds table (table-in-memory (withFlow a) (roomy (withFlow a) (table-valid (withFlow a) (with-passes a e))))
+      in-memory-holds table (table-in-memory (withFlow a) (roomy (withFlow a) (table-valid (withFlow a) (with-passes measure a e))))
       (roomy table (table-valid table table-passes))
 
   table-bounds : code9 (factsOf table) .code ≡ 0
-  unfolding newRules
+  unfolding newRulesBy
   table-bounds =
       sym
-      (ap (λ (r : Answer). r .code) (alike-code9 (withFlow a) table (table-same (withFlow a)) (with-passes a e)))
-      ∙ passed-head (passed-tail (passed-tail (new-passed a e)))
+      (ap (λ (r : Answer). r .code) (alike-code9 (withFlow a) table (table-same (withFlow a)) (with-passes measure a e)))
+      ∙ passed-head (passed-tail (passed-tail (new-passed measure a e)))
 
   -- its figures are right,
   figures-same : figuresOf (factsOf (withFlow a)) ≡ figuresOf (factsOf table)
-  figures-same = alike-figures (withFlow a) table (table-same (withFlow a)) (with-passes a e)
+  figures-same = alike-figures (withFlow a) table (table-same (withFlow a)) (with-passes measure a e)
 
   flows-same : factsOf table .flows ≡ table .flows
   unfolding factsOf
@@ -70,7 +70,7 @@ module _ (a : Adding) (e : Done (addAnswer a)) where
   unfolding keptOf
   table-read =
       write-then-read table table-holds table-passes
-      ∙ rw (table-table (withFlow a) (roomy (withFlow a) (table-valid (withFlow a) (with-passes a e))), figures-same) refl
+      ∙ rw (table-table (withFlow a) (roomy (withFlow a) (table-valid (withFlow a) (with-passes measure a e))), figures-same) refl
 
   -- and accepted with the table's bounds
   table-check : checkOf (bookOf table) ≡ record { answer = done 0; bounds = boundsOf (factsOf table) }
@@ -108,7 +108,7 @@ module _ (a : Adding) (e : Done (addAnswer a)) where
 
 -- ONE TABLE, ONE BOOK: from add's answer 0, through write, to the run
 pub one-table-one-book : (p : Program) → Meets p → AddedRuns p
-unfolding addOf keptOf
+unfolding addBy keptOf
 one-table-one-book p m a changed c e buffer room w d =
     let adds : changed ≡ addOf a = m .adds a changed c in
     let done-a : Done (addAnswer a) = rw adds at e in

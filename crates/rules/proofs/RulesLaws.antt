@@ -16,7 +16,7 @@ use Rattle.trade.specs.Bound.{fairly, measure, code9, code9By}
 use Rattle.trade.specs.Kept.{Tabled, RightFigures, code17}
 use Rattle.trade.specs.Answers.{isDone, givenFirst, firstOf, on, noNumber}
 use Rattle.trade.specs.Codes.{code6, code8, code14, code15Adding, code15Removing}
-use Rattle.trade.specs.Calls.{Adding, Removing, tableRules, oldRules, withFlow, enterRules, newRules, addAnswer, leaveRules, removeAnswer}
+use Rattle.trade.specs.Calls.{Adding, Removing, tableRules, oldRules, withFlow, enterRules, newRules, newRulesBy, addAnswer, addAnswerBy, leaveRules, removeAnswer}
 use Rattle.trade.specs.declared.answer.Answer.{Answer}
 use Rattle.trade.proofs.Answers.{done-first, refused-second, Passed, passed-head, passed-tail, passed-first, passed-others, passed-look, firstOf-passed, given-passed, given-passes, firstOf-pass, firstOf-last, append-refused, append-passed, firstOf-look, firstOf-on}
 use Rattle.trade.proofs.Alike.{SameTimes}
@@ -98,7 +98,7 @@ module _ (a : Adding) where
 
   -- the old table and the place decide, or the new table does
   in-two : addAnswer a ≡ firstOf ((on (λ b. b .table) oldRules ++ enterRules) ++ on withFlow newRules) noNumber a
-  unfolding addAnswer
+  unfolding addAnswerBy
   in-two = rw append-assoc
 
   pub add-asked : (askAnswer a .code ≡ 0 → ⊥) → addAnswer a ≡ askAnswer a
@@ -125,7 +125,7 @@ module _ (r : Removing) where
 
 -- THE NEW TABLE: past its form, code 9
 pub new-nine : (t : Sections) → code6 (factsOf t) .code ≡ 0 → code8 (factsOf t) .code ≡ 0 → firstOf newRules noNumber t ≡ code9 (factsOf t)
-unfolding newRules code9By givenFirst
+unfolding newRulesBy code9By givenFirst
 new-nine t six eight =
     firstOf-pass _ _ noNumber t six
     ∙ firstOf-pass _ _ noNumber t eight

@@ -9,7 +9,7 @@ use Rattle.trade.specs.Table.{InMemory}
 use Rattle.trade.specs.Kept.{Tabled, figureIn, keptMeasure}
 use Rattle.trade.specs.Answers.{isDone, firstOf, on, noNumber}
 use Rattle.trade.specs.Bound.{fairly}
-use Rattle.trade.specs.Calls.{Checked, tableRules, keptRules, checkKeptOf}
+use Rattle.trade.specs.Calls.{Checked, tableRules, keptRules, keptRulesBy, checkKeptBy}
 use Rattle.trade.specs.declared.answer.Answer.{Answer}
 use Rattle.trade.proofs.Answers.{Passed, passed-head, passed-tail, firstOf-passed, append-refused, firstOf-look}
 use Rattle.trade.proofs.Alike.{SameTimes}
@@ -51,7 +51,7 @@ records-alone t =
 
 -- refused by its form, or what code 9 and the bounds come to
 pub checks-refused : (t : Tabled) → (firstOf tableRules noNumber (t .sections) .code ≡ 0 → ⊥) → ChecksKept t (refusedBy (firstOf tableRules noNumber (t .sections)))
-unfolding checkKeptOf keptRules isDone
+unfolding checkKeptBy keptRulesBy isDone
 checks-refused t n =
     let look : firstOf (on (λ (u : Tabled). u .sections) tableRules) noNumber t ≡ firstOf tableRules noNumber (t .sections)
     = firstOf-look (λ (u : Tabled). u .sections) tableRules t in
@@ -62,5 +62,5 @@ checks-refused t n =
 pub checks-bounded : (t : Tabled) → firstOf tableRules noNumber (t .sections) .code ≡ 0 → ChecksKept t (boundedIn (factsOf (t .sections)) (keptMeasure t))
 unfolding boundedIn
 checks-bounded t e =
-    let nine = kept-nine t (firstOf-passed tableRules noNumber (t .sections) e) in
+    let nine = kept-nine keptMeasure t (firstOf-passed tableRules noNumber (t .sections) e) in
     record { answer = sym (ap (λ (c : Checked). c .answer) nine); bounds = sym (ap (λ (c : Checked). c .bounds) nine) }

@@ -25,7 +25,7 @@ use Rattle.trade.specs.Codes.{outside, code1, code2, code3, code4, badRo
 use Rattle.trade.specs.SlotCodes.{badPlace, code10, code12, overrun, code11}
 use Rattle.trade.specs.Exchange.{spliced, recut}
 use Rattle.trade.specs.Kept.{figureIn, square, figuresOf, keptOf, emptyKept, wrongLine, code17}
-use Rattle.trade.specs.Calls.{Advancing, bookRules, tableRules, readAnswer, readOf, checkRulesBy, checkAnswerBy, boundsBy, checkBy, keptRules, checkKeptOf, oldRules, writeAnswer, writeOf, recordOf, withFlow, enterRules, newRules, addAnswer, addOf, withoutFlow, leaveRules, removeAnswer, removeOf, startAnswerBy, startArea, startBy, flowsGrantedBy, advanceAnswerBy, nextAreaBy, grantsInBy, advanceBy, advanceAnswer, grantsIn, advanceOf}
+use Rattle.trade.specs.Calls.{Advancing, bookRules, tableRules, readAnswer, readOf, checkRulesBy, checkAnswerBy, boundsBy, checkBy, keptRulesBy, checkKeptBy, oldRules, writeAnswer, writeOf, recordOf, withFlow, enterRules, newRulesBy, addAnswerBy, addBy, withoutFlow, leaveRules, removeAnswer, removeOf, startAnswerBy, startArea, startBy, flowsGrantedBy, advanceAnswerBy, nextAreaBy, grantsInBy, advanceBy, advanceAnswer, grantsIn, advanceOf}
 use Rattle.trade.specs.Cases.{bookA, bookB, bookOfNone, deadlineAt, lent, grantRoom, areaAfter, slotOf, oneDisturbs, noneDisturbs, bareRows, bare, threeByThree, checks, tableA, Cases}
 use Rattle.trade.proofs.Bytes.{long-fourBytes}
 use Rattle.trade.proofs.Answers.{done-first, passed-none, passed-more, passed-done}
@@ -33,7 +33,7 @@ use Rattle.trade.proofs.Calls.{advance-done}
 
 -- all that a case is computed with
 unfoldable pub computed : ℕ
-unfolding firstFrom first some sumTo largestFrom listFrom listTo word long twoBytes fourBytes bit part padded over trailer rowsDistance recordsDistance stepsDistance nodeCount flowCount sectionsOf field disturbsIn stepIn factsOf said firstStep allSteps stepOf stepsDistanceOf recordsDistanceOf rowsDistanceOf trailerOf used bookOf tableOf emptyTable isDone given givenFirst firstOf on meet conflict conflictsWith conflictFree one countOf worst worstPath matrix interference ceil instances slotsNeeded admissible boundBy boundsAbove boundlessBy acceptedBy atStart released instanceAt doneNow unfinished nextStep going greedy grantedBy among nextStateBy runBy grantOf grantsOf stateIn areaOf outside code1 code2 code3 code4 badRow code5 badRecord code6 code7 firstOfPlan repeats goesOn badStep code8 code14 code15Adding code15Removing code9By code13 badPlace code10 code12 overrun code11 bookRules tableRules readAnswer readOf checkRulesBy checkAnswerBy boundsBy checkBy figureIn square figuresOf keptOf emptyKept wrongLine code17 keptRules checkKeptOf oldRules writeAnswer writeOf recordOf spliced recut withFlow enterRules newRules addAnswer addOf withoutFlow leaveRules removeAnswer removeOf startAnswerBy startArea startBy flowsGrantedBy advanceAnswerBy nextAreaBy grantsInBy advanceBy bookA bookB bookOfNone deadlineAt lent grantRoom areaAfter slotOf oneDisturbs noneDisturbs bareRows bare threeByThree checks tableA
+unfolding firstFrom first some sumTo largestFrom listFrom listTo word long twoBytes fourBytes bit part padded over trailer rowsDistance recordsDistance stepsDistance nodeCount flowCount sectionsOf field disturbsIn stepIn factsOf said firstStep allSteps stepOf stepsDistanceOf recordsDistanceOf rowsDistanceOf trailerOf used bookOf tableOf emptyTable isDone given givenFirst firstOf on meet conflict conflictsWith conflictFree one countOf worst worstPath matrix interference ceil instances slotsNeeded admissible boundBy boundsAbove boundlessBy acceptedBy atStart released instanceAt doneNow unfinished nextStep going greedy grantedBy among nextStateBy runBy grantOf grantsOf stateIn areaOf outside code1 code2 code3 code4 badRow code5 badRecord code6 code7 firstOfPlan repeats goesOn badStep code8 code14 code15Adding code15Removing code9By code13 badPlace code10 code12 overrun code11 bookRules tableRules readAnswer readOf checkRulesBy checkAnswerBy boundsBy checkBy figureIn square figuresOf keptOf emptyKept wrongLine code17 keptRulesBy checkKeptBy oldRules writeAnswer writeOf recordOf spliced recut withFlow enterRules newRulesBy addAnswerBy addBy withoutFlow leaveRules removeAnswer removeOf startAnswerBy startArea startBy flowsGrantedBy advanceAnswerBy nextAreaBy grantsInBy advanceBy bookA bookB bookOfNone deadlineAt lent grantRoom areaAfter slotOf oneDisturbs noneDisturbs bareRows bare threeByThree checks tableA
 computed = 0
 
 -- an advance of the book of none

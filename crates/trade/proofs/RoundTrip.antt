@@ -19,7 +19,7 @@ use Rattle.trade.specs.Kept.{Tabled, keptOf, RightFigures, keptMeasure}
 use Rattle.trade.specs.Answers.{done, given, isDone, givenFirst, firstOf, on, noNumber}
 use Rattle.trade.specs.Codes.{code1, code2, code3, code4, code5, code6, code7, code8}
 use Rattle.trade.specs.Bound.{Measure, measure, code9, code9By}
-use Rattle.trade.specs.Calls.{Checked, bookRules, tableRules, readAnswer, readOf, checkRulesBy, checkRules, checkAnswerBy, boundsBy, boundsOf, checkBy, checkOf, keptRules, checkKeptOf}
+use Rattle.trade.specs.Calls.{Checked, bookRules, tableRules, readAnswer, readOf, checkRulesBy, checkRules, checkAnswerBy, boundsBy, boundsOf, checkBy, checkOf, keptRulesBy, checkKeptOf, checkKeptBy}
 use Rattle.trade.specs.declared.answer.Answer.{Answer}
 use Rattle.trade.proofs.First.{and-true}
 use Rattle.trade.proofs.Answers.{Passed, passed-none, passed-more, passed-head, passed-tail, passed-append, passed-on, passed-done, append-passed, firstOf-last, given-passes, given-passed, given-false}
@@ -198,31 +198,34 @@ write-then-check t h p e = rw (passed-done noNumber passes, book-said t h p, ←
 abbrev pub nineBy : Facts → Measure → Checked
 nineBy f μ = record { answer = code9By f μ; bounds = cond (isDone (code9By f μ)) (boundsBy f μ) (replicate mostFlows 0) }
 
-book-nine : (b : List ℕ) → Passed b bookRules → checkOf b ≡ nineBy (said b) (measure (said b))
+pub book-nine : (measured : Facts → Measure) (b : List ℕ) → Passed b bookRules → checkBy measured b ≡ nineBy (said b) (measured (said b))
 unfolding checkBy checkAnswerBy checkRulesBy code9By givenFirst
-book-nine b p = rw (nine)
+book-nine measured b p = rw (nine)
   where
-    nine : firstOf checkRules noNumber b ≡ code9 (said b)
+    nine : firstOf (checkRulesBy measured) noNumber b ≡ code9By (said b) (measured (said b))
     nine =
         append-passed bookRules _ noNumber b (ap (λ (a : Answer). a .code) (passed-done noNumber p))
-        ∙ firstOf-last (λ c. code9 (said c)) b (given-passes 8 _ _)
+        ∙ firstOf-last (λ c. code9By (said c) (measured (said c))) b (given-passes 8 _ _)
 
-pub kept-nine : (t : Tabled) → Passed (t .sections) tableRules → checkKeptOf t ≡ nineBy (factsOf (t .sections)) (keptMeasure t)
-unfolding checkKeptOf keptRules code9By givenFirst
-kept-nine t p = rw (nine)
+pub kept-nine :
+    (measured : Tabled → Measure) (t : Tabled)
+    → Passed (t .sections) tableRules
+    → checkKeptBy measured t ≡ nineBy (factsOf (t .sections)) (measured t)
+unfolding checkKeptBy keptRulesBy code9By givenFirst
+kept-nine measured t p = rw (nine)
   where
-    nine : firstOf keptRules noNumber t ≡ code9By (factsOf (t .sections)) (keptMeasure t)
+    nine : firstOf (keptRulesBy measured) noNumber t ≡ code9By (factsOf (t .sections)) (measured t)
     nine =
         append-passed (on (λ (u : Tabled). u .sections) tableRules) _ noNumber t
         (ap (λ (a : Answer). a .code) (passed-done noNumber (passed-on (λ (u : Tabled). u .sections) p)))
-        ∙ firstOf-last (λ (u : Tabled). code9By (factsOf (u .sections)) (keptMeasure u)) t (given-passes 8 _ _)
+        ∙ firstOf-last (λ (u : Tabled). code9By (factsOf (u .sections)) (measured u)) t (given-passes 8 _ _)
 
 -- right figures count as interference does
 pub kept-right : (t : Tabled) → Passed (t .sections) tableRules → RightFigures t → checkKeptOf t ≡ nineBy (factsOf (t .sections)) (measure (factsOf (t .sections)))
 kept-right t p right =
     let f : Facts = factsOf (t .sections) in
     let same = right-measure t right in
-    kept-nine t p
+    kept-nine keptMeasure t p
     ∙ rw (code9-alike f f refl (alike-self (f .flows) f) (keptMeasure t) (measure f) same, bounds-alike f f refl (alike-self (f .flows) f) (keptMeasure t) (measure f) same)
 
 -- CHECK A TABLE: where its figures are right, what check says of its book, bounds included
@@ -232,7 +235,7 @@ kept-then-check t h p right =
     let by-use : nineBy f (measure f) ≡ nineBy (factsOf (used (t .sections))) (measure (factsOf (used (t .sections))))
     = rw (alike-code9 (t .sections) (used (t .sections)) (used-same (t .sections)) p, alike-bounds (t .sections) (used (t .sections)) (used-same (t .sections)) p) in
     let by-book : checkOf (bookOf (t .sections)) ≡ nineBy (factsOf (used (t .sections))) (measure (factsOf (used (t .sections))))
-    = book-nine (bookOf (t .sections)) (book-passes (t .sections) h p) ∙ rw (book-said (t .sections) h p) in
+    = book-nine measure (bookOf (t .sections)) (book-passes (t .sections) h p) ∙ rw (book-said (t .sections) h p) in
     kept-right t p right ∙ by-use ∙ sym by-book
 
 -- two bytes read as a number are written as those bytes

@@ -28,9 +28,12 @@ pub record Measure : Type 0 where
 abbrev pub byInterference : Facts → (ℕ → ℕ) → Measure
 byInterference f carry = record { cost = interference f; carry = carry }
 
--- THE DEADLINE COUNT: an instance may be carried in up to its deadline
+-- THE DEADLINE COUNT: by these costs, an instance may be carried in up to its deadline
+abbrev pub deadlined : Facts → (ℕ → ℕ → ℕ) → Measure
+deadlined f cost = record { cost = cost; carry = f .deadline }
+
 abbrev pub byDeadline : Facts → Measure
-byDeadline f = byInterference f (f .deadline)
+byDeadline f = deadlined f (interference f)
 
 -- the slots that flow l needs within R slots: its own L, and for each flow h above it the instances of h, times the cost of one
 unfoldable pub slotsNeeded : Facts → Measure → ℕ → ℕ → ℕ

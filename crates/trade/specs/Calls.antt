@@ -12,7 +12,7 @@ use Rattle.trade.specs.Facts.{Facts, factsOf, said}
 use Rattle.trade.specs.Table.{used, bookOf}
 use Rattle.trade.specs.Exchange.{Exchange, recut}
 use Rattle.trade.specs.Answers.{isDone, firstOf, on, noNumber}
-use Rattle.trade.specs.Bound.{Measure, measure, boundBy, code9By, code9}
+use Rattle.trade.specs.Bound.{Measure, measure, boundBy, code9By}
 use Rattle.trade.specs.Kept.{Tabled, keptOf, emptyKept, code17, keptMeasure}
 use Rattle.trade.specs.Slot.{State, atStart, Releases, releasesOf, Waits, greedy, grantedBy, nextStateBy, grantOf, grantsOf}
 use Rattle.trade.specs.Area.{stateIn, areaOf}
@@ -86,16 +86,24 @@ boundsOf f = boundsBy f (measure f)
 abbrev pub checkOf : List ℕ → Checked
 checkOf = checkBy measure
 
--- CHECK a table: 3, 5, 6, 8, then 9 by its figures as they stand. Bounds as above
-unfoldable pub keptRules : List (Tabled → Answer)
-keptRules = on (λ t. t .sections) tableRules ++ ((λ t. code9By (factsOf (t .sections)) (keptMeasure t)) ∷ [])
+-- CHECK a table: 3, 5, 6, 8, then 9. Bounds as above. How the table is measured is a parameter
+unfoldable pub keptRulesBy : (Tabled → Measure) → List (Tabled → Answer)
+keptRulesBy measured = on (λ t. t .sections) tableRules ++ ((λ t. code9By (factsOf (t .sections)) (measured t)) ∷ [])
 
-unfoldable pub checkKeptOf : Tabled → Checked
-checkKeptOf t =
+unfoldable pub checkKeptBy : (Tabled → Measure) → Tabled → Checked
+checkKeptBy measured t =
     record {
-      answer = firstOf keptRules noNumber t;
-      bounds = cond (isDone (firstOf keptRules noNumber t)) (boundsBy (factsOf (t .sections)) (keptMeasure t)) (replicate mostFlows 0);
+      answer = firstOf (keptRulesBy measured) noNumber t;
+      bounds =
+          cond (isDone (firstOf (keptRulesBy measured) noNumber t)) (boundsBy (factsOf (t .sections)) (measured t)) (replicate mostFlows 0);
     }
+
+-- by its figures as they stand
+abbrev pub keptRules : List (Tabled → Answer)
+keptRules = keptRulesBy keptMeasure
+
+abbrev pub checkKeptOf : Tabled → Checked
+checkKeptOf = checkKeptBy keptMeasure
 
 -- WRITE: 3, 5, 6, 8 on the table, then 13. The book at the front of the lent buffer, and nothing beyond it touched; refused, nothing
 -- touched. The number is the book's length. The figures are not looked at: what is written is the table's sections
@@ -146,23 +154,34 @@ withFlow a = recut (used (a .table .sections)) (entering (a .place) (a .flow) (a
 unfoldable pub oldRules : List (Tabled → Answer)
 oldRules = on (λ t. t .sections) tableRules ++ (code17 ∷ [])
 
--- the rules on where a flow comes in, and those on the new table
+-- the rules on where a flow comes in,
 unfoldable pub enterRules : List (Adding → Answer)
 enterRules = (λ a. code14 (factsOf (a .table .sections))) ∷ (λ a. code15Adding (factsOf (a .table .sections)) (a .place)) ∷ []
 
-unfoldable pub newRules : List (Sections → Answer)
-newRules = (λ t. code6 (factsOf t)) ∷ (λ t. code8 (factsOf t)) ∷ (λ t. code9 (factsOf t)) ∷ []
+-- and those on the new table; how it is measured is a parameter
+unfoldable pub newRulesBy : (Facts → Measure) → List (Sections → Answer)
+newRulesBy measured = (λ t. code6 (factsOf t)) ∷ (λ t. code8 (factsOf t)) ∷ (λ t. code9By (factsOf t) (measured (factsOf t))) ∷ []
 
 -- the old table's rules come first, then these two
-unfoldable pub addAnswer : Adding → Answer
-addAnswer = firstOf (on (λ a. a .table) oldRules ++ (enterRules ++ on withFlow newRules)) noNumber
+unfoldable pub addAnswerBy : (Facts → Measure) → Adding → Answer
+addAnswerBy measured = firstOf (on (λ a. a .table) oldRules ++ (enterRules ++ on withFlow (newRulesBy measured))) noNumber
 
-unfoldable pub addOf : Adding → Changed
-addOf a =
+unfoldable pub addBy : (Facts → Measure) → Adding → Changed
+addBy measured a =
     record {
-      answer = addAnswer a;
-      table = cond (isDone (addAnswer a)) (keptOf (withFlow a)) (a .table);
+      answer = addAnswerBy measured a;
+      table = cond (isDone (addAnswerBy measured a)) (keptOf (withFlow a)) (a .table);
     }
+
+-- by the measure of interference and bounds
+abbrev pub newRules : List (Sections → Answer)
+newRules = newRulesBy measure
+
+abbrev pub addAnswer : Adding → Answer
+addAnswer = addAnswerBy measure
+
+abbrev pub addOf : Adding → Changed
+addOf = addBy measure
 
 -- REMOVE: 3, 5, 6, 8 and 17; 15. Refused, the table as handed in
 pub record Removing : Type 0 where

@@ -13,7 +13,7 @@ use Rattle.trade.specs.Facts.{Facts, factsOf}
 use Rattle.trade.specs.Table.{InMemory, tableOf, emptyTable}
 use Rattle.trade.specs.Answers.{givenFirst}
 use Rattle.trade.specs.Interference.{interference}
-use Rattle.trade.specs.Bound.{Measure, fairly}
+use Rattle.trade.specs.Bound.{Measure, deadlined, fairly}
 use Rattle.trade.specs.declared.answer.Answer.{Answer}
 
 -- a table in memory: its counts and sections, and its figures
@@ -68,3 +68,7 @@ code17 t = givenFirst 17 (wrongLine t) (t .sections .flows)
 -- the measure that a table carries: its figures as they stand, and an instance may be carried in up to its bound by them
 abbrev pub keptMeasure : Tabled → Measure
 keptMeasure t = fairly (factsOf (t .sections)) (figureIn (t .figures))
+
+-- and by the deadline count
+abbrev pub keptByDeadline : Tabled → Measure
+keptByDeadline t = deadlined (factsOf (t .sections)) (figureIn (t .figures))

@@ -11,7 +11,7 @@ use Rattle.trade.specs.Table.{used}
 use Rattle.trade.specs.Kept.{tabled, keptOf}
 use Rattle.trade.specs.Answers.{isDone, firstOf, noNumber}
 use Rattle.trade.specs.Exchange.{recut}
-use Rattle.trade.specs.Calls.{Adding, withFlow, newRules, addOf}
+use Rattle.trade.specs.Calls.{Adding, withFlow, newRules, addBy}
 use Rattle.trade.specs.declared.answer.Answer.{Answer}
 use Rattle.changes.specs.Moved.{coming, Coming}
 use Rattle.rules.proofs.RulesLaws.{leaves, askAnswer, enter-asked, add-asked, add-new}
@@ -50,7 +50,7 @@ old-answer-requires : tie.Need-old-answer-requires
 old-answer-requires c κs = c .before .before .before .before .before .before .before .before .before .before .pre
 
 returns : tie.Need-returns
-unfolding addOf
+unfolding addBy
 returns c =
     let tested = c .before .before in
     let e = asks tested ∙ sym (add-asked (asked (start tested)) (λ z. c .if1 .taken (ap (λ (r : Answer). r .code) (asks tested) ∙ z))) in
@@ -104,7 +104,7 @@ flow-in-requires : tie.Need-flow-in-requires
 flow-in-requires c κs = let b = c .before .before .before .before .before .before .before in comes b
 
 returns-2 : tie.Need-returns-2
-unfolding addOf
+unfolding addBy
 returns-2 c =
     let came = c .before .before .before .before .before .before .before .before .before .before in
     let b = came .before .before .before .before .before .before .before .before in

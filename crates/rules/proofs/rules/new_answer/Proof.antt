@@ -10,7 +10,7 @@ use Rattle.trade.specs.Layout.{Sections, sections}
 use Rattle.trade.specs.Facts.{Facts, factsOf, factsIn, firstStep, allSteps}
 use Rattle.trade.specs.Answers.{firstOf, noNumber}
 use Rattle.trade.specs.Codes.{code6, code8}
-use Rattle.trade.specs.Calls.{newRules}
+use Rattle.trade.specs.Calls.{newRules, newRulesBy}
 use Rattle.trade.specs.declared.answer.Answer.{Answer}
 use Rattle.trade.proofs.Answers.{done-first, refused-second, firstOf-refuse, firstOf-pass}
 use Rattle.trade.proofs.Kept.{figures-counted}
@@ -63,7 +63,7 @@ formed c =
     formed-by (given (c .before .before .before .before .before .before .before .before .before .before)) (new .nodes) (new .flows) (new .rows) (new .records) (plans-fit (c .before .before .before)) (six-passes (c .before .before .before)) (eight-passes c)
 
 returns : tie.Need-returns
-unfolding newRules
+unfolding newRulesBy
 returns c =
     let e = six (c .before .before) in
     untouched (c .before .before .before .before .before .before .before) _ (e ∙ sym (firstOf-refuse _ _ noNumber (given (c .before .before .before .before .before .before .before)) (λ z. c .if1 .taken (ap coded e ∙ z)))) (c .if1 .taken)
@@ -75,7 +75,7 @@ steps-answer-requires c κs =
     ((new .flows, new .records), plans-fit c)
 
 returns-2 : tie.Need-returns-2
-unfolding newRules
+unfolding newRulesBy
 returns-2 c =
     let e = eight (c .before .before) in
     untouched (c .before .before .before .before .before .before .before .before .before .before) _

@@ -6,7 +6,7 @@ use mathlib.Core.List.{[], _∷_}
 use native.Mathlib.Omega.{arith}
 use Rattle.trade.specs.Bytes.{Bytes}
 use Rattle.trade.specs.Facts.{flowIn}
-use Rattle.trade.specs.Pins.{periodOf7, noMark, noNodes, badDistance, ownBit, noId, longerPlan, jump, tooTight, distances, stepTwo, trailerOfThree, counted, recorded, starts, advances, areaWith, ofOne, formedOfOne, alike, bookOf4, fullTable, oneFigure, keptA, fullKept, checksKept, meets, blocked, disturbed, releasesAt, due, adds, removes, writes, withSteps, Pins}
+use Rattle.trade.specs.Pins.{periodOf7, noMark, noNodes, badDistance, ownBit, noId, longerPlan, jump, tooTight, distances, stepTwo, trailerOfThree, counted, recorded, starts, advances, areaWith, ofOne, formedOfOne, alike, bookOf4, fullTable, oneFigure, keptA, behindA, fullKept, checksKept, meets, blocked, disturbed, releasesAt, due, adds, removes, writes, withSteps, Pins}
 use Rattle.trade.proofs.Cases.{computed}
 
 most-byte : Bytes (0xff ∷ [])
@@ -14,7 +14,7 @@ most-byte zero = omega arith
 most-byte (suc i) = omega arith
 
 pub pins-hold : Pins
-unfolding computed flowIn periodOf7 oneFigure keptA fullKept checksKept noMark noNodes badDistance ownBit noId longerPlan jump tooTight distances stepTwo trailerOfThree counted recorded starts advances areaWith ofOne formedOfOne alike bookOf4 fullTable meets blocked disturbed releasesAt due adds removes writes withSteps
+unfolding computed flowIn periodOf7 oneFigure keptA behindA fullKept checksKept noMark noNodes badDistance ownBit noId longerPlan jump tooTight distances stepTwo trailerOfThree counted recorded starts advances areaWith ofOne formedOfOne alike bookOf4 fullTable meets blocked disturbed releasesAt due adds removes writes withSteps
 pins-hold =
     record {
       byte-255 = most-byte;
@@ -108,6 +108,11 @@ pins-hold =
       like-to-like = refl;
       carry-no-longer = refl;
       carry-no-shorter = refl;
+      deadline-count = refl;
+      deadline-no-shorter = refl;
+      deadline-no-longer = refl;
+      deadline-kept = refl;
+      deadline-adding = refl;
       one-instance = refl;
       two-instances = refl;
       releases = refl;

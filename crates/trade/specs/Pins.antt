@@ -13,13 +13,13 @@ use Rattle.trade.specs.Facts.{disturbsIn, factsOf, factsIn, flowIn, said
 use Rattle.trade.specs.Table.{bookOf, tableOf, emptyTable}
 use Rattle.trade.specs.Answers.{done, refused}
 use Rattle.trade.specs.Conflict.{conflict, conflictsWith}
-use Rattle.trade.specs.Bound.{instances}
+use Rattle.trade.specs.Bound.{instances, byDeadline}
 use Rattle.trade.specs.Slot.{Releases, periodic, releasesOf, grantsOf}
 use Rattle.trade.specs.Area.{stateIn}
 use Rattle.trade.specs.Codes.{code3, code6}
 use Rattle.trade.specs.SlotCodes.{code10}
-use Rattle.trade.specs.Kept.{Tabled}
-use Rattle.trade.specs.Calls.{readOf, checkOf, checkKeptOf, writeOf, addOf, removeOf, startOf, advanceOf, recordOf}
+use Rattle.trade.specs.Kept.{Tabled, keptByDeadline}
+use Rattle.trade.specs.Calls.{Adding, readOf, checkOf, checkBy, checkKeptOf, checkKeptBy, writeOf, addOf, addBy, removeOf, startOf, advanceOf, recordOf}
 use Rattle.trade.specs.Cases.{bookA, bookB, tableA, deadlineAt, deadlineOf9, lent, slotOf, sends, oneDisturbs, noneDisturbs, checks}
 use Rattle.trade.specs.declared.answer.Answer.{Answer}
 use Rattle.trade.specs.declared.flow.Flow.{Flow}
@@ -129,6 +129,16 @@ oneFigure figure = replicate 32 0 ++ (figure ∷ replicate 991 0)
 
 unfoldable pub keptA : Tabled
 keptA = withFigures tableA (oneFigure 2)
+
+-- a newcomer behind the flows of book A, with D of flow 9 at 6
+unfoldable pub behindA : Adding
+behindA =
+    record {
+      table = withFigures (sectionsOf (deadlineAt deadlineOf9 6 bookA)) (oneFigure 2);
+      place = 2;
+      flow = flowOf 1 50 1;
+      plan = 0 ∷ 1 ∷ [];
+    }
 
 -- the full table with all its figures, 1 each, and 1 at every other place too
 unfoldable pub fullKept : Tabled
@@ -332,6 +342,13 @@ pub record Pins : Type 0 where
   -- P and D of flow 7 set to 7: bounds 3 and 5, where ceil((R + R_h) / P_h) would give 7; set to 6: 3 and 7, where ceil(R / P_h) would give 5
   pub carry-no-longer : checkOf (periodOf7 7) .bounds ≡ 3 ∷ 5 ∷ replicate 30 0
   pub carry-no-shorter : checkOf (periodOf7 6) .bounds ≡ 3 ∷ 7 ∷ replicate 30 0
+  -- BY THE DEADLINE COUNT flow 9 of book A has the bound 7, and with D of flow 7 at 7; at 6 it has the bound 5. With 1 in place of 2 for its
+  -- figure it has the bound 5. With its D at 6 it keeps a newcomer out that comes in by the fair count
+  pub deadline-count : checkBy byDeadline bookA ≡ record { answer = done 0; bounds = 3 ∷ 7 ∷ replicate 30 0 }
+  pub deadline-no-shorter : checkBy byDeadline (deadlineAt deadlineOf7 7 bookA) .bounds ≡ 3 ∷ 7 ∷ replicate 30 0
+  pub deadline-no-longer : checkBy byDeadline (deadlineAt deadlineOf7 6 bookA) .bounds ≡ 3 ∷ 5 ∷ replicate 30 0
+  pub deadline-kept : checkKeptBy keptByDeadline (withFigures tableA (oneFigure 1)) .bounds ≡ 3 ∷ 5 ∷ replicate 30 0
+  pub deadline-adding : addBy byDeadline behindA .answer ∷ addOf behindA .answer ∷ [] ≡ refused 9 1 ∷ done 0 ∷ []
   -- of a flow above with P 10 and D 5, one instance counts in 6 slots, and two in 7
   pub one-instance : instances 6 5 10 ≡ 1
   pub two-instances : instances 7 5 10 ≡ 2

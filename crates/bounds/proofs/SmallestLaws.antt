@@ -1,5 +1,5 @@
 -- The search for the smallest R that is at least what is needed within it, from below. What is needed grows with R, so an R that needs
--- more rules out every one up to what it needs. Leans on InstancesLaws, and on the trade's First and Sums. Assumes nothing.
+-- more rules out every one up to what it needs. Leans on the trade's First, Sums and Instances. Assumes nothing.
 use Prim.Native.Nat.{ℕ, suc, _+_, _*_, _≤_, _<_}
 use mathlib.Core.Path.{_≡_, refl, _∙_, ap}
 use mathlib.Core.Bool.{Bool, false, _&&_, and-false}
@@ -14,8 +14,8 @@ use Rattle.trade.specs.Facts.{Facts}
 use Rattle.trade.specs.Bound.{instances, Measure, slotsNeeded, admissible, boundBy}
 use Rattle.trade.proofs.First.{lt-or-ge, first-unique, first-none, first-cong}
 use Rattle.trade.proofs.Sums.{sum-mono, sum-cong}
+use Rattle.trade.proofs.Instances.{instances-mono}
 use Rattle.bounds.specs.Terms.{Terms, neededIn, smallestIn}
-use Rattle.bounds.proofs.InstancesLaws.{instances-mono}
 
 module _ (needed : ℕ → ℕ) (len deadline : ℕ) where
   -- R is from L to D, and at least what is needed within it

@@ -3,6 +3,7 @@ pub mod First
 pub mod Sums
 pub mod Conflict
 pub mod Interference
+pub mod Instances
 pub mod Bound
 pub mod Slot
 pub mod Order
@@ -10,6 +11,7 @@ pub mod Answers
 pub mod Valid
 pub mod Alike
 pub mod Fair
+pub mod Monotone
 pub mod Prefix
 pub mod Bytes
 pub mod Area

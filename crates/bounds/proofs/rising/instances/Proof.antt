@@ -4,7 +4,7 @@ use mathlib.Core.Path.{refl}
 use borrow.Author.Needs.{needs}
 use native.Mathlib.Omega.{arith}
 use Rattle.trade.specs.Bound.{ceil, instances}
-use Rattle.bounds.proofs.InstancesLaws.{ceil-at, instances-most}
+use Rattle.trade.proofs.Instances.{ceil-at, instances-most}
 use Rattle.bounds.proofs.rising.instances.Statement.{statement}
 use Rattle.bounds.proofs.rising.instances.Tie as tie
 

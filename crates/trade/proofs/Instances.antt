@@ -1,12 +1,12 @@
 -- Laws of ceil(a / b), and of the instances that may act within R slots: they grow with R and with the carry-in, and shrink with the
--- period. Leans on nothing. Assumes nothing.
+-- period. Leans on First. Assumes nothing.
 use Prim.Native.Nat.{ℕ, suc, _+_, _-_, _*_, _/_, _≤_, _<_}
 use mathlib.Core.Path.{_≡_}
 use mathlib.Core.Logic.{_↔_, ⊎-elim}
 use native.Mathlib.Omega.{arith}
 use native.Mathlib.Nat.{div-lt-iff-lt-mul, le-trans, mul-le-mul-left, mul-one}
 use Rattle.trade.specs.Bound.{ceil, instances}
 use Rattle.trade.proofs.First.{lt-or-ge}
 
 -- ceil(a / b) is the least n whose multiple of b is at least a
 pub ceil-least : (a b n : ℕ) → 1 ≤ b → (ceil a b ≤ n) ↔ (a ≤ n * b)

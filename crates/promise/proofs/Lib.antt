@@ -11,6 +11,7 @@ pub mod Exact
 pub mod Grants
 pub mod Slots
 pub mod Promise
--- One table, one book; the empty programs
+-- One table, one book; the fair count; the empty programs
 pub mod Tables
+pub mod Fair
 pub mod Empty

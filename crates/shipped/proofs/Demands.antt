@@ -1,10 +1,12 @@
--- THE DEMANDS, of the functions that ship: from Rattle, and from C. Assumes nothing.
+-- THE DEMANDS, and what the requests add to them, of the functions that ship: from Rattle, and from C. Assumes nothing.
 use Rattle.promise.specs.Demands.{Demand1, Demand2, Demand3}
 use Rattle.promise.specs.Tables.{AddedRuns}
+use Rattle.promise.specs.Fair.{NoWorse}
 use Rattle.promise.proofs.Refusals.{keeps-demand-1}
 use Rattle.promise.proofs.Exact.{keeps-demand-2}
 use Rattle.promise.proofs.Promise.{keeps-demand-3}
 use Rattle.promise.proofs.Tables.{one-table-one-book}
+use Rattle.promise.proofs.Fair.{no-worse}
 use Rattle.shipped.specs.Calls.{shipped, forC}
 use Rattle.shipped.proofs.Meets.{shipped-meets, for-c-meets}
 
@@ -32,3 +34,10 @@ added-table-runs = one-table-one-book shipped shipped-meets
 
 pub added-table-runs-in-c : AddedRuns forC
 added-table-runs-in-c = one-table-one-book forC for-c-meets
+
+-- THE FAIR COUNT: no table accepted before is refused, and no bound rises
+pub shipped-no-worse : NoWorse shipped
+shipped-no-worse = no-worse shipped shipped-meets
+
+pub for-c-no-worse : NoWorse forC
+for-c-no-worse = no-worse forC for-c-meets

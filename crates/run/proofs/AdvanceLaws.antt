@@ -37,9 +37,9 @@ long-enough needed memory h = given-false 13 (ltb (length memory) needed) 0 (le-
 pub refuses : {r : Answer} (code number : ℕ) → r ≡ refused (suc code) number → r .code ≡ 0 → ⊥
 refuses code number e z = let n : suc code ≡ 0 = sym (ap (λ (a : Answer). a .code) e) ∙ z in omega arith
 
--- three rules in a row
-three : (x y z : Answer) (n : ℕ) → cond (isDone x) (cond (isDone y) (cond (isDone z) (done n) z) y) x ≡ cond (isDone (cond (isDone x) (cond (isDone y) z y) x)) (done n) (cond (isDone x) (cond (isDone y) z y) x)
-three x y z n =
+-- three rules in a row, and what is behind them
+pub three : (x y z behind : Answer) → cond (isDone x) (cond (isDone y) (cond (isDone z) behind z) y) x ≡ cond (isDone (cond (isDone x) (cond (isDone y) z y) x)) behind (cond (isDone x) (cond (isDone y) z y) x)
+three x y z behind =
     ⊎-elim
     (λ (d : isDone x ≡ true). ⊎-elim (λ (e : isDone y ≡ true). rw (d, e)) (λ (e : isDone y ≡ false). rw (d, e, e)) (bool-cases (isDone y)))
     (λ (d : isDone x ≡ false). rw (d, d))
@@ -123,7 +123,7 @@ module _ (b area grants : List ℕ) where
             ∙ ap (λ (w : Answer). cond (isDone (code10 f r s)) w (code10 f r s))
             (firstOf-rule rule12 (rule11 ∷ []) count handed
             ∙ ap (λ (w : Answer). cond (isDone (code12 s)) w (code12 s)) (firstOf-rule rule11 [] count handed))
-            ∙ three (code10 f r s) (code12 s) (code11 f r s) (length (flowsGranted handed))
+            ∙ three (code10 f r s) (code12 s) (code11 f r s) (done (length (flowsGranted handed)))
 
         -- a slot over the book's sections is the slot of the book: its node count bears on nothing
         abbrev ours : Facts

@@ -98,7 +98,7 @@ module _
 
     -- the run after its releases
     module _ (after : Run) (made : AfterReleases part run after) where
-      done-is : (i : ℕ) → i < flows → placeOf (after .flows) i ≡ doneNow due state i
+      pub done-is : (i : ℕ) → i < flows → placeOf (after .flows) i ≡ doneNow due state i
       unfolding doneNow released factsOf stateOf
       done-is i h = made .places i h ∙ rw (held .slot, held .places i (omega arith))
 

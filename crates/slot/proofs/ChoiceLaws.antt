@@ -65,7 +65,7 @@ module _ (flows : ℕ) (rows records steps : List ℕ) (state : State) where
     abbrev turn : Turn
     turn = record { start = firstStep facts i; len = field records i 4; done = record { 0 = state .done i } }
 
-    turn-next : state .done i < field records i 4 → nextOf steps turn ≡ nextStep facts noneDue state i
+    pub turn-next : state .done i < field records i 4 → nextOf steps turn ≡ nextStep facts noneDue state i
     unfolding nextOf planStep nextStep doneNow stepOf firstStep factsOf
     turn-next h =
         rw (
@@ -73,7 +73,7 @@ module _ (flows : ℕ) (rows records steps : List ℕ) (state : State) where
           lt-ltb (firstStep facts i + state .done i) (stepsIn steps) (omega (arith, plan-ends records i flows taken, formed .planned)),
         )
 
-    next-within : state .done i < field records i 4 → Within rows (nextStep facts noneDue state i)
+    pub next-within : state .done i < field records i 4 → Within rows (nextStep facts noneDue state i)
     unfolding nextStep doneNow stepOf firstStep factsOf
     next-within h = formed .within (firstStep facts i + state .done i) (omega (arith, plan-ends records i flows taken))
 

@@ -6,6 +6,7 @@ pub mod Interference
 pub mod Instances
 pub mod Bound
 pub mod Slot
+pub mod Why
 pub mod Order
 pub mod Answers
 pub mod Valid

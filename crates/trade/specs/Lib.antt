@@ -22,5 +22,6 @@ pub mod Run
 pub mod Exchange
 pub mod Kept
 pub mod Calls
+pub mod Why
 pub mod Cases
 pub mod Pins

@@ -6,6 +6,7 @@ pub mod layout;
 pub mod limits;
 pub mod node;
 pub mod state;
+pub mod told;
 
 pub use answer::Answer;
 pub use clock::Clock;
@@ -20,3 +21,4 @@ pub use node::Transmission;
 pub use state::Grant;
 pub use state::Progress;
 pub use state::Run;
+pub use told::Told;

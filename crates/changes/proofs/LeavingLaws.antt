@@ -15,18 +15,18 @@ use Rattle.trade.specs.Facts.{factsOf}
 use Rattle.trade.specs.Table.{used}
 use Rattle.trade.specs.Interference.{interference}
 use Rattle.trade.specs.Kept.{Tabled, KeptInMemory, figureIn, figuresOf}
-use Rattle.trade.specs.Exchange.{spliced, recut}
+use Rattle.trade.specs.Exchange.{spliced, recut, beforeOut}
 use Rattle.trade.specs.Calls.{Removing, leaving, leaveRules, removeAnswer}
 use Rattle.trade.proofs.Sums.{sum-le}
 use Rattle.trade.proofs.Used.{same-sections, NoMore}
 use Rattle.trade.proofs.First.{lt-or-ge}
-use Rattle.trade.proofs.Moved.{SamePlan, interference-moved, same-disturbs, plan-before, plan-behind}
 use Rattle.trade.proofs.Kept.{square-same}
+use Rattle.trade.proofs.Taken.{out-most, out-order, TakenOut, interference-out, recut-takes}
 use Rattle.trade.proofs.Exchange.{Fits, recut-no-more}
 use Rattle.changes.specs.Moved.{Leaving}
 use Rattle.cut.specs.Turned.{turned}
 use Rattle.cut.proofs.CutLaws.{left-front}
-use Rattle.square.specs.Carried.{beforeOut, withoutFigures}
+use Rattle.square.specs.Carried.{withoutFigures}
 use Rattle.changes.proofs.RecutLaws.{steps-most, old-full, steps-cut, passed-in-range, passed-right-used}
 use Rattle.rules.proofs.RulesLaws.{old-passed, place-passed, leave-there}
 
@@ -84,42 +84,23 @@ module _ (held : Tabled) (place : ℕ) (c : Leaving held place) where
       (omega (arith, step-room))
       ∙ steps-cut t (c .old) (leaving place) first next last (omega arith) (omega (arith, c .within)) e₁ (e₂ ∙ ap (sumTo lens) (add-one place)) e₃)
 
-  -- THE FLOWS that are left keep their plans,
-  kept-plan : (i : ℕ) → SamePlan (factsOf new) (factsOf (used t)) i (beforeOut place i)
-  unfolding beforeOut sumTo
-  kept-plan i =
-      ⊎-elim
-      (λ (l : i < place). rw (lt-ltb i place l) (plan-before (used t) (leaving place) (old-full t (c .old)) fits i l))
-      (λ (l : place ≤ i).
-      let k : ℕ = i - place in
-      let new-at : place + 0 + k ≡ i = omega arith in
-      let old-at : suc place + k ≡ suc i = omega arith in
-      rw (le-ltb i place l) (rw (new-at, old-at) at (plan-behind (used t) (leaving place) (old-full t (c .old)) fits refl k)))
-      (lt-or-ge i place)
+  -- THE FLOWS that are left stand in the order they stood in, and so do their figures
+  taken : TakenOut place (factsOf new) (factsOf (used t))
+  unfolding used
+  taken = recut-takes (used t) (old-full t (c .old)) place (c .within)
 
   was-below : (i : ℕ) → i < t .flows - 1 → beforeOut place i < t .flows
-  unfolding beforeOut
-  was-below i h =
-      ⊎-elim (λ (l : i < place). rw (lt-ltb i place l) (omega arith)) (λ (l : place ≤ i). rw (le-ltb i place l) (omega arith)) (lt-or-ge i place)
-
-  was-above : (l h : ℕ) → h < l → beforeOut place h < beforeOut place l
-  unfolding beforeOut
-  was-above l h above =
-      ⊎-elim
-      (λ (u : l < place). rw (lt-ltb l place u, lt-ltb h place (omega arith)) above)
-      (λ (u : place ≤ l).
-      ⊎-elim (λ (v : h < place). rw (le-ltb l place u, lt-ltb h place v) (omega arith)) (λ (v : place ≤ h). rw (le-ltb l place u, le-ltb h place v) (omega arith)) (lt-or-ge h place))
-      (lt-or-ge l place)
-
-  left-figure : (l h : ℕ) → l < t .flows - 1 → h < l → figureIn (held .figures) (beforeOut place l) (beforeOut place h) ≡ interference (factsOf new) l h
-  unfolding used
-  left-figure l h l< above =
-      c .right (beforeOut place l) (beforeOut place h) (was-below l l<) (was-above l h above)
-      ∙ sym (interference-moved (factsOf new) (factsOf (used t)) (same-disturbs (used t) (leaving place) (old-full t (c .old)) fits) l h (beforeOut place l) (beforeOut place h) (kept-plan l) (kept-plan h))
+  was-below i h = omega (arith, out-most place i)
 
   left-count : factsOf new .flows ≡ t .flows - 1
   unfolding factsOf recut used
   left-count = omega (arith, c .within)
+
+  left-figure : (l h : ℕ) → l < t .flows - 1 → h < l → figureIn (held .figures) (beforeOut place l) (beforeOut place h) ≡ interference (factsOf new) l h
+  unfolding used
+  left-figure l h l< above =
+      c .right (beforeOut place l) (beforeOut place h) (was-below l l<) (out-order place h l above)
+      ∙ sym (interference-out place (factsOf new) (factsOf (used t)) taken l h (omega (arith, left-count)) (omega (arith, left-count)))
 
   -- so the figures, taken from where they stood, are those of the new table
   pub left-figures : withoutFigures (t .flows - 1) place (held .figures) ≡ figuresOf (factsOf new)

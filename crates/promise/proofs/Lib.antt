@@ -14,4 +14,5 @@ pub mod Promise
 -- One table, one book; the fair count; the empty programs
 pub mod Tables
 pub mod Fair
+pub mod Removal
 pub mod Empty

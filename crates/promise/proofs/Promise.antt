@@ -69,7 +69,7 @@ module _ (measured : Facts → Measure) (waits : Waits) (x : Ran) (g : AcceptedR
       (lt-or-ge (t .0) endOfClock)
 
   -- a slot that was called before the clock's end has been run
-  runs-clock : (t : Slot) → t .0 < x .count → t .0 < endOfClock → HasRun x t
+  pub runs-clock : (t : Slot) → t .0 < x .count → t .0 < endOfClock → HasRun x t
   runs-clock t h clock =
       record { called = h; done = ap (λ (a : Advanced). a .answer .code) (in-slot measured waits x g (t .0) h clock) }
 
@@ -97,7 +97,7 @@ module _ (measured : Facts → Measure) (waits : Waits) (x : Ran) (g : AcceptedR
         granted-below waits (facts x) (due x (t .0)) (run waits x (t .0)) (flowAt waits x (t .0) j) (among-at (goes waits x (t .0)) j h)
 
     -- grant j of the slot is the next step of the j-th flow that goes
-    grant-is :
+    pub grant-is :
         (j : ℕ)
         → j < length (goes waits x (t .0))
         → grant x t j ≡ stepGrant (facts x) (flowAt waits x (t .0) j) (instanceOf waits x (t .0) j) (nextOf waits x (t .0) j)

@@ -4,4 +4,5 @@ pub mod Demands
 pub mod Promise
 pub mod Tables
 pub mod Fair
+pub mod Removal
 pub mod Empty

@@ -2,11 +2,13 @@
 use Rattle.promise.specs.Demands.{Demand1, Demand2, Demand3}
 use Rattle.promise.specs.Tables.{AddedRuns}
 use Rattle.promise.specs.Fair.{NoWorse}
+use Rattle.promise.specs.Removal.{NeverHurts}
 use Rattle.promise.proofs.Refusals.{keeps-demand-1}
 use Rattle.promise.proofs.Exact.{keeps-demand-2}
 use Rattle.promise.proofs.Promise.{keeps-demand-3}
 use Rattle.promise.proofs.Tables.{one-table-one-book}
 use Rattle.promise.proofs.Fair.{no-worse}
+use Rattle.promise.proofs.Removal.{never-hurts}
 use Rattle.shipped.specs.Calls.{shipped, forC}
 use Rattle.shipped.proofs.Meets.{shipped-meets, for-c-meets}
 
@@ -41,3 +43,10 @@ shipped-no-worse = no-worse shipped shipped-meets
 
 pub for-c-no-worse : NoWorse forC
 for-c-no-worse = no-worse forC for-c-meets
+
+-- TAKING A FLOW OUT never hurts
+pub shipped-never-hurts : NeverHurts shipped
+shipped-never-hurts = never-hurts shipped shipped-meets
+
+pub for-c-never-hurts : NeverHurts forC
+for-c-never-hurts = never-hurts forC for-c-meets

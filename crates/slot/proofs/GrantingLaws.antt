@@ -24,7 +24,7 @@ use Rattle.trade.specs.declared.state.Grant.{Grant}
 use Rattle.trade.specs.declared.state.Progress.{Progress}
 use Rattle.trade.specs.declared.state.Run.{Run}
 use Rattle.trade.proofs.First.{bool-cases, and-true, lt-or-ge}
-use Rattle.trade.proofs.Slot.{going-goes, going-stays, going-stands, going-below, among-last}
+use Rattle.trade.proofs.Slot.{going-goes, going-stays, going-stands, going-below, among-last, grants-append, length-grants}
 use Rattle.trade.proofs.Bytes.{length-over}
 use Rattle.nodes.proofs.MaskLaws.{bit-none}
 use Rattle.nodes.proofs.LowestLaws.{Lowest}
@@ -44,16 +44,7 @@ and-yes false = refl
 -- the grants of one flow more stand behind those of the others
 grants-last : (grant : ℕ → List ℕ) (is : List ℕ) (i : ℕ) → grantsOf grant (is ++ (i ∷ [])) ≡ grantsOf grant is ++ grant i
 unfolding grantsOf
-grants-last grant [] i = append-nil (grant i)
-grants-last grant (h ∷ is) i =
-    ap (λ (l : List ℕ). grant h ++ l) (grants-last grant is i) ∙ sym (append-assoc (grant h) (grantsOf grant is) (grant i))
-
-length-grants :
-    (grant : ℕ → List ℕ) → ((i : ℕ) → length (grant i) ≡ grantBytes) → (is : List ℕ) → length (grantsOf grant is) ≡ grantBytes * length is
-unfolding grantsOf
-length-grants grant nine [] = refl
-length-grants grant nine (i ∷ is) =
-    omega (arith, length-append (grant i) (grantsOf grant is), nine i, length-grants grant nine is)
+grants-last grant is i = grants-append grant is (i ∷ []) ∙ ap (λ (l : List ℕ). grantsOf grant is ++ l) (append-nil (grant i))
 
 -- no more flows go than are taken
 pub going-few : (waits : Rule) (work : ℕ → Bool) (k : ℕ) → length (going waits work k) ≤ k

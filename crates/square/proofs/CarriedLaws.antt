@@ -16,9 +16,11 @@ use Rattle.trade.specs.Interference.{interference}
 use Rattle.trade.specs.Kept.{figureIn, figuresOf}
 use Rattle.trade.proofs.First.{bool-cases, lt-or-ge}
 use Rattle.trade.proofs.Kept.{square-same}
+use Rattle.trade.proofs.Taken.{out-below, out-past, out-most}
 use Rattle.sections.specs.Formed.{Formed}
 use Rattle.figures.proofs.FiguresLaws.{interference-most}
-use Rattle.square.specs.Carried.{shifted, lineFrom, beforeIn, OldFigures, pairIn, pairsOf, figureWith, withFigures, inLine, beforeOut, outLine}
+use Rattle.trade.specs.Exchange.{beforeOut}
+use Rattle.square.specs.Carried.{shifted, lineFrom, beforeIn, OldFigures, pairIn, pairsOf, figureWith, withFigures, inLine, outLine}
 use Rattle.figures.proofs.Padded.{filled, filled-none, filled-at, filled-behind, filled-zero, filled-same, filled-set}
 use Rattle.square.proofs.KeptLaws.{shifted-below, shifted-past, line-used, line-unused, line-same, used, Lines, line-left, figures-square}
 
@@ -205,20 +207,8 @@ module _
         ∙ figures-square flows rows records steps
 
 -- A FLOW GOES: where another stood before
-out-below : (place i : ℕ) → i < place → beforeOut place i ≡ i
-unfolding beforeOut
-out-below place i l = rw (lt-ltb i place l) refl
-
-out-past : (place i : ℕ) → place ≤ i → beforeOut place i ≡ suc i
-unfolding beforeOut
-out-past place i l = rw (le-ltb i place l) refl
-
 out-least : (place i : ℕ) → i ≤ beforeOut place i
 out-least place i =
-    ⊎-elim (λ (l : i < place). omega (arith, out-below place i l)) (λ (l : place ≤ i). omega (arith, out-past place i l)) (lt-or-ge i place)
-
-out-most : (place i : ℕ) → beforeOut place i ≤ suc i
-out-most place i =
     ⊎-elim (λ (l : i < place). omega (arith, out-below place i l)) (λ (l : place ≤ i). omega (arith, out-past place i l)) (lt-or-ge i place)
 
 shifted-out : (place h : ℕ) → shifted place 1 0 h ≡ beforeOut place h

@@ -1,6 +1,6 @@
 -- The figures of a table, line by line: a line read from where its figures stood, a line put in its place, and the figures of a table
 -- before and after a flow comes in or goes. Leans on the trade's Kept.
-use Prim.Native.Nat.{ℕ, suc, _+_, _-_, _*_, _≤_, _<_}
+use Prim.Native.Nat.{ℕ, _+_, _-_, _*_, _≤_, _<_}
 use mathlib.Core.Path.{_≡_}
 use mathlib.Core.Bool.{cond, _&&_}
 use mathlib.Core.List.{List}
@@ -11,6 +11,7 @@ use Rattle.trade.specs.First.{listTo}
 use Rattle.trade.specs.Bytes.{padded}
 use Rattle.trade.specs.Facts.{Facts, factsIn}
 use Rattle.trade.specs.Interference.{interference}
+use Rattle.trade.specs.Exchange.{beforeOut}
 use Rattle.trade.specs.Kept.{figuresRoom, figureIn, square}
 
 -- a place below the cut as it is, any other so many places ahead and then back
@@ -32,12 +33,9 @@ pub record LinePut (l : ℕ) (line before after : List ℕ) : Type 0 where
   pub below : (k : ℕ) → k < mostFlows * l → getD after k 0 ≡ getD before k 0
   pub past : (k : ℕ) → mostFlows * l + mostFlows ≤ k → getD after k 0 ≡ getD before k 0
 
--- where a flow stood before another came in at a place, and before the one at that place went
+-- where a flow stood before another came in at a place
 unfoldable pub beforeIn : ℕ → ℕ → ℕ
 beforeIn place i = cond (ltb i place) i (i - 1)
-
-unfoldable pub beforeOut : ℕ → ℕ → ℕ
-beforeOut place i = cond (ltb i place) i (suc i)
 
 -- the figures of a table, before a flow came in at a place, are those of the flows that were there
 pub record OldFigures (flows place : ℕ) (rows records steps old : List ℕ) : Type 0 where

@@ -20,11 +20,14 @@ pub mod Places
 pub mod Used
 pub mod Exchange
 pub mod Moved
+pub mod Taken
+pub mod TakenRules
 pub mod Whole
 pub mod Calls
 pub mod Front
 pub mod Kept
 pub mod RoundTrip
+pub mod Removed
 pub mod Unique
 pub mod Numbers
 pub mod Cases

@@ -18,6 +18,39 @@ bound-most : (f : Facts) (μ : Measure) (l : ℕ) → boundBy f μ l ≤ suc (f 
 unfolding boundBy
 bound-most f μ l = first-within (admissible f μ l) (suc (f .deadline l))
 
+-- flow l needs no more, within any number of slots, by one set of facts and measure than flow k by another
+module _
+    (f g : Facts) (μ ν : Measure) (l k : ℕ)
+    (deadline : f .deadline l ≡ g .deadline k)
+    (len : f .len l ≤ g .len k)
+    (less : (R : ℕ) → slotsNeeded f μ l R ≤ slotsNeeded g ν k R)
+  where
+    -- what is admissible by more is admissible by less
+    pub admissible-lower : (R : ℕ) → Admissible g ν k R → Admissible f μ l R
+    admissible-lower R p =
+        record {
+          plan = omega (arith, len, p .plan);
+          deadline = omega (arith, deadline, p .deadline);
+          enough = omega (arith, less R, p .enough);
+        }
+
+    pub bound-lower : boundBy f μ l ≤ boundBy g ν k
+    bound-lower =
+        ⊎-elim (λ (h : g .deadline k < boundBy g ν k). omega (arith, bound-most f μ l, deadline))
+        (λ (h : boundBy g ν k ≤ g .deadline k). bound-smallest f μ l (boundBy g ν k) (admissible-lower (boundBy g ν k) (bound-admissible g ν k h)))
+        (lt-or-ge (g .deadline k) (boundBy g ν k))
+
+-- the slots that a flow above may take are no more
+pub term-mono :
+    (R carry other period shorter cost more : ℕ)
+    → 1 ≤ shorter
+    → shorter ≤ period
+    → carry ≤ other
+    → cost ≤ more
+    → instances R carry period * cost ≤ instances R other shorter * more
+term-mono R carry other period shorter cost more some longer less cheaper =
+    mul-le-mul (instances-mono R R carry other period shorter some longer (omega arith) less) cheaper
+
 -- flow l has no more above it, or of its own, by one set of facts and measure than by another
 pub record Lighter (f g : Facts) (μ ν : Measure) (l : ℕ) : Type 0 where
   pub deadline : f .deadline l ≡ g .deadline l
@@ -27,31 +60,18 @@ pub record Lighter (f g : Facts) (μ ν : Measure) (l : ℕ) : Type 0 where
   pub costs : (h : ℕ) → h < l → μ .cost l h ≤ ν .cost l h
 
 module _ (f g : Facts) (μ ν : Measure) (l : ℕ) (a : Lighter f g μ ν l) where
-  pub needed-mono : (R : ℕ) → slotsNeeded f μ l R ≤ slotsNeeded g ν l R
+  needed-mono : (R : ℕ) → slotsNeeded f μ l R ≤ slotsNeeded g ν l R
   unfolding slotsNeeded
   needed-mono R =
       add-le-add (a .len)
       (sum-mono (λ (h : ℕ). instances R (μ .carry h) (f .period h) * μ .cost l h)
       (λ (h : ℕ). instances R (ν .carry h) (g .period h) * ν .cost l h) l
       (λ h b.
-      mul-le-mul
-      (instances-mono R R (μ .carry h) (ν .carry h) (f .period h) (g .period h) (a .period h b .0) (a .period h b .1) (omega arith) (a .carries h b))
+      term-mono R (μ .carry h) (ν .carry h) (f .period h) (g .period h) (μ .cost l h) (ν .cost l h) (a .period h b .0) (a .period h b .1) (a .carries h b)
       (a .costs h b)))
 
-  -- what is admissible by more is admissible by less
-  pub admissible-mono : (R : ℕ) → Admissible g ν l R → Admissible f μ l R
-  admissible-mono R p =
-      record {
-        plan = omega (arith, a .len, p .plan);
-        deadline = omega (arith, a .deadline, p .deadline);
-        enough = omega (arith, needed-mono R, p .enough);
-      }
-
   pub bound-mono : boundBy f μ l ≤ boundBy g ν l
-  bound-mono =
-      ⊎-elim (λ (h : g .deadline l < boundBy g ν l). omega (arith, bound-most f μ l, a .deadline))
-      (λ (h : boundBy g ν l ≤ g .deadline l). bound-smallest f μ l (boundBy g ν l) (admissible-mono (boundBy g ν l) (bound-admissible g ν l h)))
-      (lt-or-ge (g .deadline l) (boundBy g ν l))
+  bound-mono = bound-lower f g μ ν l l (a .deadline) (a .len) needed-mono
 
 -- by the same facts and costs, a shorter carry-in
 pub carry-mono :

@@ -3,19 +3,19 @@
 -- law says that a slot reads no more of a run. Leans on Alike and Slot. Assumes nothing.
 use Prim.Native.Nat.{ℕ, zero, suc, _+_, _≤_, _<_}
 use mathlib.Core.Path.{_≡_, refl, sym, _∙_, ap, ap₂}
-use mathlib.Core.Bool.{Bool, true, false, _||_}
-use mathlib.Core.Logic.{_⊎_, inl, inr}
-use mathlib.Core.List.{List, [], _∷_, _++_, map}
+use mathlib.Core.Bool.{Bool, true, false, not, _&&_, _||_}
+use mathlib.Core.Logic.{_⊎_, inl, inr, ⊎-elim}
+use mathlib.Core.List.{List, [], _∷_, _++_, map, append-assoc, append-nil}
 use native.Mathlib.Omega.{arith}
 use lib.Dec.{eqb, ltb}
-use borrow.Author.Tests.{ltb-true, eq-eqb}
+use borrow.Author.Tests.{ltb-true, eq-eqb, eqb-true, eqb-false}
 use Rattle.trade.specs.Facts.{Facts, stepOf}
 use Rattle.trade.specs.Conflict.{conflict, conflictsWith}
 use Rattle.trade.specs.Interference.{one, matrix}
 use Rattle.trade.specs.Slot.{State, atStart, Releases, released, instanceAt, periodic, doneNow, unfinished, nextStep, Rule, going, Waits, greedy, grantedBy, among, nextStateBy, runBy, grantOf, grantsOf}
 use Rattle.trade.specs.declared.node.Transmission.{Transmission}
-use Rattle.trade.proofs.First.{bool-cases, or-right}
-use Rattle.trade.proofs.Slot.{going-below, going-stands}
+use Rattle.trade.proofs.First.{bool-cases, not-both, lt-or-ge, or-right}
+use Rattle.trade.proofs.Slot.{among-more, going-goes, going-stays, going-below, going-stands}
 use Rattle.trade.proofs.Alike.{Alike}
 
 -- transmissions that conflict alike at each flow of a list conflict alike with the list
@@ -37,6 +37,37 @@ grants-among g h [] e = refl
 grants-among g h (i ∷ is) e =
     ap₂ (λ (x xs : List ℕ). x ++ xs) (e i (rw (eq-eqb i i refl)))
     (grants-among g h is (λ j m. e j (or-right (eqb i j) (among is j) m)))
+
+-- the flows that go are those of the first k, and behind them those that are not
+pub record Behind (waits : Rule) (work : ℕ → Bool) (k n : ℕ) : Type 0 where
+  pub rest : List ℕ
+  pub joined : going waits work n ≡ going waits work k ++ rest
+  pub past : (i : ℕ) → among rest i ≡ true → (k ≤ i) × (i < n)
+
+pub going-behind : (waits : Rule) (work : ℕ → Bool) (k n : ℕ) → k ≤ n → Behind waits work k n
+unfolding among
+going-behind waits work k zero h =
+    let e : zero ≡ k = omega arith in record { rest = []; joined = ap (going waits work) e ∙ sym (append-nil (going waits work k)); past = λ i m. absurd (not-both m refl) }
+going-behind waits work k (suc n) h =
+    ⊎-elim (λ (l : n < k). let e : suc n ≡ k = omega arith in record { rest = []; joined = ap (going waits work) e ∙ sym (append-nil (going waits work k)); past = λ i m. absurd (not-both m refl) })
+    (λ (l : k ≤ n). step l (going-behind waits work k n l)) (lt-or-ge n k)
+  where
+    last : (l : k ≤ n) (b : Behind waits work k n) (i : ℕ) → among (b .rest ++ (n ∷ [])) i ≡ true → (eqb n i ≡ true) ⊎ (eqb n i ≡ false) → (k ≤ i) × (i < suc n)
+    last l b i m (inl e) = (omega (arith, eqb-true n i e), omega (arith, eqb-true n i e))
+    last l b i m (inr e) = let old = b .past i (sym (among-more (b .rest) n i (eqb-false n i e)) ∙ m) in (old .0, omega (arith, old .1))
+
+    step : k ≤ n → Behind waits work k n → Behind waits work k (suc n)
+    step l b =
+        ⊎-elim
+        (λ (goes : (work n && not (waits (going waits work n) n)) ≡ true).
+        record {
+          rest = b .rest ++ (n ∷ []);
+          joined = going-goes waits work n goes ∙ ap (λ (is : List ℕ). is ++ (n ∷ [])) (b .joined) ∙ append-assoc (going waits work k) (b .rest) (n ∷ []);
+          past = λ i m. last l b i m (bool-cases (eqb n i));
+        })
+        (λ (stays : (work n && not (waits (going waits work n) n)) ≡ false).
+        record { rest = b .rest; joined = going-stays waits work n stays ∙ b .joined; past = λ i m. (b .past i m .0, omega (arith, b .past i m .1)) })
+        (bool-cases (work n && not (waits (going waits work n) n)))
 
 -- where the same flows below k have work, and rules agree on those that do, the same ones go
 going-same :
@@ -194,6 +225,10 @@ module _ (waits : Waits) (local : Local waits) (k : ℕ) (f g : Facts) (a : Alik
   abbrev runOf : Facts → ℕ → State
   runOf h t = runBy waits h (periodic h (h .phase)) t
 
+  -- those of the first k that go
+  abbrev front : Rule → Facts → Releases → State → List ℕ
+  front rule h r s = going rule (unfinished h r s) k
+
   level-on : (t : ℕ) → Abreast k (runOf f t) (runOf g t) → Level k (periodic f (f .phase) t) (periodic g (g .phase) t) (runOf f t) (runOf g t)
   level-on t b = level-periodic k f g (f .phase) (g .phase) t (runOf f t) (runOf g t) a (a .phase) b
 
@@ -217,3 +252,22 @@ module _ (waits : Waits) (local : Local waits) (k : ℕ) (f g : Facts) (a : Alik
             alike-grant k f g a r q (runOf f t) (runOf g t) b i h
             (going-below (waits f r (runOf f t)) (unfinished f r (runOf f t)) (f .flows) i e .1);
       }
+
+  -- so they stand in front of both, in the same order, and their grants are the same bytes
+  pub prefix-front :
+      (t : ℕ)
+      → (front (waits f (periodic f (f .phase) t) (runOf f t)) f (periodic f (f .phase) t) (runOf f t) ≡ front (waits g (periodic g (g .phase) t) (runOf g t)) g (periodic g (g .phase) t) (runOf g t))
+      × (grantsOf (grantOf f (periodic f (f .phase) t) (runOf f t)) (front (waits f (periodic f (f .phase) t) (runOf f t)) f (periodic f (f .phase) t) (runOf f t))
+      ≡ grantsOf (grantOf g (periodic g (g .phase) t) (runOf g t)) (front (waits g (periodic g (g .phase) t) (runOf g t)) g (periodic g (g .phase) t) (runOf g t)))
+  prefix-front t =
+      let r : Releases = periodic f (f .phase) t in
+      let q : Releases = periodic g (g .phase) t in
+      let b = level-on t (prefix-abreast t) in
+      let same = alike-going waits local k f g a r q (runOf f t) (runOf g t) b in (
+        same,
+        grants-among (grantOf f r (runOf f t)) (grantOf g q (runOf g t)) (front (waits f r (runOf f t)) f r (runOf f t))
+            (λ i e.
+            let (below, busy) = going-below (waits f r (runOf f t)) (unfinished f r (runOf f t)) k i e in
+            alike-grant k f g a r q (runOf f t) (runOf g t) b i below busy)
+            ∙ ap (grantsOf (grantOf g q (runOf g t))) same,
+      )

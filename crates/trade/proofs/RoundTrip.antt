@@ -117,7 +117,7 @@ module _ (t : Sections) (h : Holds t) (p : Passed t tableRules) where
   unfolding used sectionsOf
   book-sections = same-sections (sectionsOf (bookOf t)) (used t) node-count flow-count book-rows book-records book-steps
 
-  book-said : said (bookOf t) ≡ factsOf (used t)
+  pub book-said : said (bookOf t) ≡ factsOf (used t)
   unfolding said
   book-said = ap factsOf book-sections
 

@@ -1,17 +1,19 @@
 -- One slot. Whatever the rule of waiting, the flows that go are unfinished flows in record order; under the greedy rule no two of
 -- their steps conflict, and an unfinished flow is left out only if it conflicts with a grant of a flow above it. Leans on Conflict.
 -- Assumes nothing.
-use Prim.Native.Nat.{ℕ, zero, suc, _≤_, _<_}
+use Prim.Native.Nat.{ℕ, zero, suc, _*_, _≤_, _<_}
 use mathlib.Core.Path.{_≡_, refl, sym, _∙_, ap}
 use mathlib.Core.Bool.{Bool, true, false, not, _&&_, _||_}
 use mathlib.Core.Logic.{_⊎_, inl, inr, ⊎-elim}
-use mathlib.Core.List.{List, [], _∷_, _++_, map, map-append}
+use mathlib.Core.List.{List, [], _∷_, _++_, map, map-append, append-assoc}
 use native.Mathlib.Omega.{arith}
 use lib.Dec.{eqb}
+use lib.ListN.{length, length-append}
 use borrow.Author.Tests.{eqb-true, eqb-false, eq-eqb, ne-eqb, not-true}
+use Rattle.trade.specs.Limits.{grantBytes}
 use Rattle.trade.specs.Facts.{Facts}
 use Rattle.trade.specs.Conflict.{conflict, conflictsWith, conflictFree}
-use Rattle.trade.specs.Slot.{State, Releases, unfinished, nextStep, Rule, going, Waits, greedy, grantedBy, granted, among}
+use Rattle.trade.specs.Slot.{State, Releases, unfinished, nextStep, Rule, going, Waits, greedy, grantedBy, granted, among, grantsOf}
 use Rattle.trade.specs.declared.node.Transmission.{Transmission}
 use Rattle.trade.proofs.First.{bool-cases, not-both, and-true, or-cases, or-right, lt-or-ge}
 use Rattle.trade.proofs.Conflict.{free-snoc}
@@ -189,3 +191,17 @@ left-out-blocked f r s i l w n =
       goes = going-stands waits work i (f .flows) by above (omega arith) ∙ goes;
       conflicts = conflicts;
     }
+
+-- the grants of some flows, and of others behind them
+pub grants-append : (grant : ℕ → List ℕ) (is js : List ℕ) → grantsOf grant (is ++ js) ≡ grantsOf grant is ++ grantsOf grant js
+unfolding grantsOf
+grants-append grant [] js = refl
+grants-append grant (i ∷ is) js =
+    ap (λ (l : List ℕ). grant i ++ l) (grants-append grant is js) ∙ sym (append-assoc (grant i) (grantsOf grant is) (grantsOf grant js))
+
+pub length-grants :
+    (grant : ℕ → List ℕ) → ((i : ℕ) → length (grant i) ≡ grantBytes) → (is : List ℕ) → length (grantsOf grant is) ≡ grantBytes * length is
+unfolding grantsOf
+length-grants grant nine [] = refl
+length-grants grant nine (i ∷ is) =
+    omega (arith, length-append (grant i) (grantsOf grant is), nine i, length-grants grant nine is)

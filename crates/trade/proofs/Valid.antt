@@ -7,7 +7,7 @@ use mathlib.Core.Logic.{⊎-elim}
 use mathlib.Core.List.{List}
 use native.Mathlib.Omega.{arith}
 use lib.Dec.{eqb, ltb}
-use borrow.Author.Tests.{leb-false, ltb-false, le-ltb, eqb-false}
+use borrow.Author.Tests.{leb-false, ltb-false, le-ltb, eqb-false, ne-eqb}
 use Rattle.trade.specs.Limits.{mostNodes, mostFlows, mostId, mostPhase, mostPeriod, mostSteps}
 use Rattle.trade.specs.Layout.{Sections}
 use Rattle.trade.specs.Facts.{Facts, factsOf, said, firstStep, allSteps}
@@ -16,7 +16,7 @@ use Rattle.trade.specs.Codes.{outside, badRecord, badStep, code3, code6,
 use Rattle.trade.specs.Calls.{bookRules, tableRules, checkRulesBy}
 use Rattle.trade.specs.declared.answer.Answer.{Answer}
 use Rattle.trade.specs.declared.node.Transmission.{Transmission}
-use Rattle.trade.proofs.First.{or-false, lt-or-ge, some-false}
+use Rattle.trade.proofs.First.{or-false, lt-or-ge, some-false, some-none}
 use Rattle.trade.proofs.Sums.{sum-most}
 use Rattle.trade.proofs.Answers.{Passed, passed-head, passed-tail, passed-others, given-passed, given-false, givenFirst-passed}
 use Rattle.trade.proofs.Bound.{bound-admissible, boundless-false}
@@ -68,6 +68,18 @@ sound f i e =
       deadline = outside-false _ _ _ deadline;
       len = outside-false _ _ _ len;
     }
+
+pub sound-passes : (f : Facts) (i : ℕ) → Sound f i → badRecord f i ≡ false
+unfolding badRecord
+sound-passes f i s =
+    rw (
+      within-inside 1 mostId (f .id i) (s .id),
+      some-none (λ j. eqb (f .id j) (f .id i)) i (λ j h. ne-eqb (f .id j) (f .id i) (s .new j h)),
+      within-inside 0 mostPhase (f .phase i) (s .phase),
+      within-inside 1 mostPeriod (f .period i) (s .period),
+      within-inside 1 (f .period i) (f .deadline i) (s .deadline),
+      within-inside 1 mostSteps (f .len i) (s .len),
+    )
 
 -- where code 6 passes, the plans have no more steps in all than so many plans of the most
 pub plans-most : (f : Facts) → code6 f .code ≡ 0 → allSteps f ≤ mostSteps * f .flows

@@ -1,6 +1,8 @@
 -- Flows of a table exchanged for others: the one cut and paste behind adding and removing. Leans on Facts and Layout.
-use Prim.Native.Nat.{ℕ, _+_, _-_, _*_}
+use Prim.Native.Nat.{ℕ, suc, _+_, _-_, _*_}
+use mathlib.Core.Bool.{cond}
 use mathlib.Core.List.{List, _++_}
+use lib.Dec.{ltb}
 use lib.ListN.{take, drop}
 use Rattle.trade.specs.Limits.{recordBytes, stepBytes}
 use Rattle.trade.specs.Layout.{Sections}
@@ -29,3 +31,7 @@ recut s x =
       records = spliced (recordBytes * x .from) (recordBytes * x .to) (x .records) (s .records);
       steps = spliced (start (x .from)) (start (x .to)) (x .steps) (s .steps);
     }
+
+-- where a flow stood before the one at a place went
+unfoldable pub beforeOut : ℕ → ℕ → ℕ
+beforeOut place i = cond (ltb i place) i (suc i)

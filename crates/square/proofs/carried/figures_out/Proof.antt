@@ -8,7 +8,8 @@ use borrow.Author.Tests.{lt-ltb, le-ltb}
 use lib.Dec.{ltb}
 use Rattle.trade.specs.Limits.{mostFlows}
 use Rattle.trade.specs.Kept.{figureIn}
-use Rattle.square.specs.Carried.{beforeOut, outLine, withoutFigures}
+use Rattle.trade.specs.Exchange.{beforeOut}
+use Rattle.square.specs.Carried.{outLine, withoutFigures}
 use Rattle.square.proofs.KeptLaws.{line-bytes, used, Lines, lines-none, lines-more, lines-all, one-more}
 use Rattle.square.proofs.CarriedLaws.{left-left}
 use Rattle.square.proofs.carried.figures_out.Statement.{statement}

@@ -201,9 +201,8 @@ fn steps(target: &mut Target, dice: &mut Dice) {
 
 /// Code 9: one deadline cut to one below its bound, and the same deadline cut to the bound itself.
 fn bounds(target: &mut Target) {
-    let facts = target.draft.facts();
-    for place in 0..target.draft.flows.len() {
-        let bound = facts.bound(place).expect("an accepted book");
+    let bounds = target.draft.facts().bounds().expect("an accepted book");
+    for (place, &bound) in bounds.iter().enumerate().take(target.draft.flows.len()) {
         let mut cut = target.draft.clone();
         cut.flows[place].deadline = bound;
         cut.flows.truncate(place + 1);

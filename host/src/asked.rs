@@ -5,7 +5,7 @@ use crate::answer::*;
 use crate::damage;
 use crate::dice::Dice;
 use crate::draft::{Draft, DraftFlow};
-use crate::generate::{accepted, newcomer, regular, Shape};
+use crate::generate::{accepted, accepted_by_deadline, newcomer, regular, Shape};
 use crate::limits::*;
 use crate::memory::{PlanBytes, Table};
 use crate::plain::book::Record;
@@ -136,26 +136,33 @@ fn steps_to_add(dice: &mut Dice, draft: &Draft) -> Vec<Request> {
     steps.into_iter().map(&mut request).collect()
 }
 
-/// A newcomer whose deadline is at its bound and one below; and a flow of the book, taken out and put in again.
+/// A newcomer whose deadline is at its bound, one below and one above; and a flow of the book, taken out and put in again.
 fn tight(dice: &mut Dice, draft: &Draft) -> Vec<Request> {
     let mut requests = Vec::new();
     let (place, flow) = (dice.below(draft.flows.len() + 1), newcomer(dice, draft));
-    let mut with = draft.clone();
-    with.flows.insert(place, flow.clone());
+    let mut down_to_it = draft.clone();
+    down_to_it.flows.truncate(place);
+    down_to_it.flows.push(flow.clone());
     let fits = draft.nodes() > 1 && draft.flows.len() < MAX_FLOWS;
-    if let Some(bound) = fits.then(|| with.facts().bound(place)).flatten() {
-        let table = littered(dice, draft);
+    if let Some(Ok(bounds)) = fits.then(|| down_to_it.facts().bounds()) {
+        let (table, bound) = (littered(dice, draft), bounds[place]);
         let record = |deadline| Record { deadline, ..flow.record() };
         let request = |deadline| add(&table, place as u64, record(deadline), places(&flow.plan));
         requests.extend([bound, bound - 1, bound + 1].map(request));
     }
-    if !draft.flows.is_empty() {
-        let place = dice.below(draft.flows.len());
-        let mut rest = draft.clone();
-        let flow = rest.flows.remove(place);
-        requests.push(add(&littered(dice, &rest), place as u64, flow.record(), places(&flow.plan)));
-    }
+    requests.extend(put_in_again(dice, draft));
     requests
+}
+
+/// A flow of the book, if it has one, taken out of its table and added again.
+fn put_in_again(dice: &mut Dice, draft: &Draft) -> Option<Request> {
+    if draft.flows.is_empty() {
+        return None;
+    }
+    let place = dice.below(draft.flows.len());
+    let mut rest = draft.clone();
+    let flow = rest.flows.remove(place);
+    Some(add(&littered(dice, &rest), place as u64, flow.record(), places(&flow.plan)))
 }
 
 /// The calls on the table of a book with one of its figures off by one, with no figures, with small ones and with any. Only a figure of a
@@ -200,20 +207,34 @@ fn pairs(dice: &mut Dice, m: usize) -> Vec<(usize, usize)> {
     pairs
 }
 
-/// Check of accepted books and of their tables, as they come and with every deadline cut to its bound, from the first flow on.
+/// Check of accepted books and of their tables, as they come and with every deadline cut to its bound, which moves no bound.
 pub fn bounded(dice: &mut Dice, shape: &Shape) -> Vec<Asked> {
-    let mut requests = Vec::new();
+    let mut asked = Vec::new();
     for _ in 0..8 {
         let mut draft = accepted(dice, shape);
-        let whole = draft.bytes();
-        for place in 0..draft.flows.len() {
-            draft.flows[place].deadline = draft.facts().bound(place).expect("an accepted book");
-        }
-        let passes = |request| Asked { request, wanted: Some(packed(DONE, 0)) };
-        requests.extend([whole, draft.bytes()].map(|slice| passes(Request::Check { slice })));
-        requests.push(passes(Request::CheckTable { table: littered(dice, &draft) }));
+        asked.push(passes(Request::Check { slice: draft.bytes() }));
+        let bounds = draft.facts().bounds().expect("an accepted book");
+        draft.flows.iter_mut().zip(bounds).for_each(|(flow, bound)| flow.deadline = bound);
+        asked.push(passes(Request::Check { slice: draft.bytes() }));
+        asked.push(passes(Request::CheckTable { table: littered(dice, &draft) }));
     }
-    requests
+    asked
+}
+
+/// What the deadline count accepts, most of it with no slot to spare, is accepted: by both checks, and by adding, where the rest of the
+/// table has passed.
+pub fn by_deadline(dice: &mut Dice, shape: &Shape) -> Vec<Asked> {
+    let draft = accepted_by_deadline(dice, shape);
+    let mut asked = vec![
+        passes(Request::Check { slice: draft.bytes() }),
+        passes(Request::CheckTable { table: littered(dice, &draft) }),
+    ];
+    asked.extend(put_in_again(dice, &draft).map(passes));
+    asked
+}
+
+fn passes(request: Request) -> Asked {
+    Asked { request, wanted: Some(packed(DONE, 0)) }
 }
 
 /// Damaged copies of an accepted book, each made to meet one code, read and checked; and their tables, handed to the other calls.

@@ -1,8 +1,9 @@
 //! The cases of the rules that any planner can be asked through the three calls.
 
 use crate::answer::*;
+use crate::dice::Dice;
 use crate::draft::{book_a, book_b, Draft, DraftFlow};
-use crate::generate::regular;
+use crate::generate::{accepted_by_deadline, regular, MIDDLE, SMALL};
 use crate::limits::*;
 use crate::planner::Planner;
 
@@ -12,6 +13,9 @@ pub const CASES: &[Case] = &[
     ("1, trailer of A", trailer_of_a),
     ("3, bounds of A", bounds_of_a),
     ("4, deadline of flow 9", deadline_of_9),
+    ("period of flow 7", period_of_7),
+    ("each flow above by its own bound", own_carry),
+    ("what the deadline count accepts", by_deadline),
     ("5, slots 2 and 3 of A", slots_of_a),
     ("6, bounds of B", bounds_of_b),
     ("7, deadline of flow 3", deadline_of_3),
@@ -77,20 +81,53 @@ fn trailer_of_a(planner: &dyn Planner) -> Result<(), String> {
     same("check", planner.check(&book), accepted())
 }
 
+/// The bound of flow 9 does not move with the deadline of flow 7.
 fn bounds_of_a(planner: &dyn Planner) -> Result<(), String> {
     has_bound(planner, &book_a(), 0, 3)?;
-    has_bound(planner, &book_a(), 1, 7)?;
-    let mut cut = book_a();
-    cut.flows[0].deadline = 6;
-    has_bound(planner, &cut, 1, 5)
+    for deadline in [3, 6, 10] {
+        let mut cut = book_a();
+        cut.flows[0].deadline = deadline;
+        has_bound(planner, &cut, 1, 5)?;
+    }
+    Ok(())
 }
 
 fn deadline_of_9(planner: &dyn Planner) -> Result<(), String> {
     let mut book = book_a();
-    book.flows[1].deadline = 7;
-    same("check with 7", planner.check(&book.bytes()), accepted())?;
-    book.flows[1].deadline = 6;
-    same("check with 6", planner.check(&book.bytes()), packed(NO_BOUND, 1))
+    book.flows[1].deadline = 5;
+    same("check with 5", planner.check(&book.bytes()), accepted())?;
+    book.flows[1].deadline = 4;
+    same("check with 4", planner.check(&book.bytes()), packed(NO_BOUND, 1))
+}
+
+/// The bound of flow 7 is 3. At P 7, 5 is enough for flow 9: ceil((5 + 3 - 1) / 7) is 1, where ceil((5 + 3) / 7) is 2 and takes it to 7. At P
+/// 6 it isn't: ceil((5 + 3 - 1) / 6) is 2 and takes it to 7, where ceil(5 / 6) is 1.
+fn period_of_7(planner: &dyn Planner) -> Result<(), String> {
+    for (period, bound) in [(7, 5), (6, 7)] {
+        let mut book = book_a();
+        (book.flows[0].period, book.flows[0].deadline) = (period, period);
+        has_bound(planner, &book, 1, bound).map_err(|what| format!("P and D {period}: {what}"))?;
+    }
+    Ok(())
+}
+
+/// Three flows over one link, with bounds 1, 5 and 6: ceil((6 + 1 - 1) / 6) is 1, and so is ceil((6 + 5 - 1) / 10). With 5 for the
+/// first flow too, or with its deadline, there would be two instances of it.
+fn own_carry(planner: &dyn Planner) -> Result<(), String> {
+    let flow = |id, period, len| DraftFlow { id, phase: 0, period, deadline: period, plan: vec![(0, 1); len] };
+    let draft = Draft { rows: vec![0; 2], flows: vec![flow(1, 6, 1), flow(2, 10, 4), flow(3, 20, 1)] };
+    [5, 6].into_iter().zip(1..).try_for_each(|(bound, place)| has_bound(planner, &draft, place, bound))
+}
+
+/// Books that the deadline count accepts, most of them with no slot to spare for it: none is refused, and so no bound is higher.
+fn by_deadline(planner: &dyn Planner) -> Result<(), String> {
+    let dice = &mut Dice::new(6);
+    for round in 0..400 {
+        let book = accepted_by_deadline(dice, if round % 4 == 0 { &MIDDLE } else { &SMALL }).bytes();
+        same("check", planner.check(&book), accepted())?;
+        same("start", planner.start(&book, &mut [0; AREA_BYTES]), accepted())?;
+    }
+    Ok(())
 }
 
 fn slots_of_a(planner: &dyn Planner) -> Result<(), String> {
@@ -138,7 +175,7 @@ fn waits(planner: &dyn Planner, draft: &Draft, clash: bool) -> Result<(), String
     let lines = run(planner, draft, 2)?;
     same("slots of flow 2", slots_of(&lines, 2), vec![u32::from(clash)])?;
     if clash {
-        return has_bound(planner, draft, 1, 3);
+        return has_bound(planner, draft, 1, 2);
     }
     let mut cut = draft.clone();
     cut.flows[1].deadline = 1;

@@ -119,22 +119,34 @@ fn empty(dice: &mut Dice, shape: &Shape) -> (Draft, usize) {
 /// A valid book that is accepted: each flow's bound is worked out first, then its period and deadline are put at
 /// or above it. A flow that has no bound even at the longest period is left out.
 pub fn accepted(dice: &mut Dice, shape: &Shape) -> Draft {
+    accepted_with(dice, shape, |bound, _| bound)
+}
+
+/// The same by the deadline count and its bounds.
+pub fn accepted_by_deadline(dice: &mut Dice, shape: &Shape) -> Draft {
+    accepted_with(dice, shape, |_, deadline| deadline)
+}
+
+/// `carry` is how long an instance of a flow with this bound and this deadline may be carried in.
+fn accepted_with(dice: &mut Dice, shape: &Shape, carry: fn(u16, u16) -> u16) -> Draft {
     let (mut draft, wanted) = empty(dice, shape);
     let slack = dice.between(1, shape.slack);
+    let mut carries = Vec::new();
     for _ in 0..wanted {
         let place = draft.flows.len();
         let flow = bare(dice, shape, draft.nodes(), &draft.flows);
         draft.flows.push(flow);
-        let Some(bound) = draft.facts().bound(place) else {
+        let Some(least) = draft.facts().bound_below(&carries) else {
             draft.flows.pop();
             continue;
         };
-        let bound = usize::from(bound);
+        let bound = usize::from(least);
         let period = dice.between(bound, (slack * bound + 4).min(shape.period));
         let loose = dice.between(bound, period);
-        let deadline = dice.pick(&[bound, bound, bound, loose, period]);
+        let deadline = dice.pick(&[bound, bound, bound, loose, period]) as u16;
         draft.flows[place].period = period as u16;
-        draft.flows[place].deadline = deadline as u16;
+        draft.flows[place].deadline = deadline;
+        carries.push(carry(least, deadline));
     }
     draft
 }

@@ -4,7 +4,7 @@ use crate::answer::*;
 use crate::cases::same;
 use crate::dice::Dice;
 use crate::draft::{book_a, book_b, Draft};
-use crate::generate::{accepted, any, regular, MIDDLE, SMALL};
+use crate::generate::{accepted, accepted_by_deadline, any, regular, MIDDLE, SMALL};
 use crate::limits::*;
 use crate::memory::{figure_at, PlanBytes, Table, PLAN_BYTES};
 use crate::plain::book::Record;
@@ -18,6 +18,7 @@ pub type PlainCase = (&'static str, fn() -> Result<(), String>);
 pub const PLAIN_CASES: &[PlainCase] = &[
     ("2, I(9,7) and its conflicts", interference_of_a),
     ("3 and 6, bounds as figures", bounds_of_both),
+    ("beside the deadline count, no table more is refused and no bound is higher", beside_deadlines),
     ("9, a bare matrix", bare_matrix),
     ("10, 0-1 and 2-3 in both orders", one_disturbance),
     ("the two ways to the interference agree", both_ways),
@@ -50,11 +51,42 @@ fn padded(bounds: &[u16]) -> Result<[u16; MAX_FLOWS], Refusal> {
 }
 
 fn bounds_of_both() -> Result<(), String> {
-    same("A", run::check(&book_a().bytes()), padded(&[3, 7]))?;
+    same("A", run::check(&book_a().bytes()), padded(&[3, 5]))?;
     same("B", run::check(&book_b().bytes()), padded(&[5, 6, 7]))?;
     let mut cut = book_b();
     cut.flows[2].deadline = 6;
     same("B cut", run::check(&cut.bytes()), Err(Refusal { code: NO_BOUND, number: 2 }))
+}
+
+/// Random tables, with right figures and with any: if the deadline count accepts one, so does the count by bounds, and no bound is higher;
+/// if it refuses one, it is at no later flow. There are bounds that are lower, and tables that only the deadline count refuses.
+fn beside_deadlines() -> Result<(), String> {
+    let dice = &mut Dice::new(8);
+    let (mut lower, mut let_in) = (0, 0);
+    for round in 0..1_000 {
+        let shape = if round % 4 == 0 { &MIDDLE } else { &SMALL };
+        let draft = if dice.once_in(2) { any(dice, shape) } else { accepted_by_deadline(dice, shape) };
+        let (facts, most) = (draft.facts(), dice.pick(&[1, 3, 9]));
+        let made_up: Vec<Vec<u64>> = (0..facts.flows.len()).map(|l| figures(dice, l, most)).collect();
+        for line in [&|l: usize| facts.line(l), &|l: usize| made_up[l].clone()] as [&dyn Fn(usize) -> Vec<u64>; 2] {
+            match (facts.bounds_by_deadline(line), facts.bounds_by(line)) {
+                (Ok(before), Ok(now)) => {
+                    let higher = before.iter().zip(&now).any(|(before, now)| now > before);
+                    same(&format!("a higher bound, {before:?} and {now:?}"), higher, false)?;
+                    lower += usize::from(now != before);
+                }
+                (Err(_), Ok(_)) => let_in += 1,
+                (Ok(_), Err(now)) => return Err(format!("refused at flow {}", now.number)),
+                (Err(before), Err(now)) => same("refused at an earlier flow", now.number < before.number, false)?,
+            }
+        }
+    }
+    same("any bounds lower, any tables let in", (lower > 0, let_in > 0), (true, true))
+}
+
+/// Figures for flow l, each at most so many.
+fn figures(dice: &mut Dice, l: usize, most: usize) -> Vec<u64> {
+    (0..l).map(|_| dice.between(0, most) as u64).collect()
 }
 
 fn bare_matrix() -> Result<(), String> {
@@ -171,7 +203,7 @@ fn codes_of_adding() -> Result<(), String> {
 
 fn adding_retests() -> Result<(), String> {
     let mut draft = book_a();
-    draft.flows[1].deadline = 7;
+    draft.flows[1].deadline = 5;
     let (_, table) = read(&draft.bytes());
     let (record, plan) = newcomer(3, &[(4, 5)]);
     same("at the top", add(&table, 0, record, &plan), (packed(NO_BOUND, 2), table.clone()))?;
@@ -248,9 +280,9 @@ fn ignored_figures() -> Result<(), String> {
 /// With 255 for I(9,7) no R up to 12 is enough; I(7,9) is not looked at.
 fn check_by_figures() -> Result<(), String> {
     let table = littered(&mut Dice::new(18), &book_a());
-    same("right", check(&table), padded(&[3, 7]))?;
+    same("right", check(&table), padded(&[3, 5]))?;
     for (figure, wanted) in
-        [(0, padded(&[3, 3])), (1, padded(&[3, 5])), (255, Err(Refusal { code: NO_BOUND, number: 1 }))]
+        [(0, padded(&[3, 3])), (1, padded(&[3, 4])), (255, Err(Refusal { code: NO_BOUND, number: 1 }))]
     {
         same(&format!("{figure} for 2"), check(&with_figures(&table, &[((1, 0), figure)])), wanted)?;
     }

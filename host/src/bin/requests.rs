@@ -81,6 +81,7 @@ fn rounds(
         let (shape, draft) = of_round(dice, round);
         let mut all = asked::around(dice, &draft);
         all.extend(asked::bounded(dice, shape));
+        all.extend(asked::by_deadline(dice, shape));
         if round % 8 == 3 {
             let draft = accepted(dice, shape);
             all.extend(asked::aimed(dice, &draft));

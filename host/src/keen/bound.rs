@@ -99,8 +99,8 @@ fn taken(digits: &[u64; DIGITS], end: u32) -> u32 {
     digits.iter().rev().fold(0, |taken, digit| taken << 1 | (!digit >> end & 1) as u32)
 }
 
-/// A higher flow as the bound sees it: `reach` is what R + D − 1 may come to before one more instance counts, and `cost`
-/// what each instance adds.
+/// A higher flow as the bound sees it: `carry` is its own bound less 1, `reach` is what R and this may come to before one more
+/// instance counts, and `cost` what each instance adds.
 #[derive(Clone, Copy, Default)]
 pub struct Rival {
     reach: u32,
@@ -138,7 +138,7 @@ impl Admission {
     pub fn admit(&mut self, record: Record) -> Result<u32, u32> {
         let (l, above) = (self.count, &mut self.rivals[..self.count]);
         let bound = bound(record, above).ok_or(packed(NO_BOUND, l))?;
-        self.rivals[l] = Rival { reach: 0, period: record.period, carry: record.deadline - 1, cost: 0 };
+        self.rivals[l] = Rival { reach: 0, period: record.period, carry: bound - 1, cost: 0 };
         self.count += 1;
         Ok(bound)
     }

@@ -1,6 +1,6 @@
 //! Conflict, interference and the response bound, by trying what the definitions speak of.
 
-use super::book::{Facts, Flow, Transmission};
+use super::book::{Facts, Flow, Record, Transmission};
 use super::Refusal;
 use crate::answer::NO_BOUND;
 use crate::limits::MAX_FLOWS;
@@ -34,33 +34,52 @@ impl Facts {
         (0..l).map(|h| self.interference(l, h)).collect()
     }
 
-    /// The smallest admissible R of flow l.
-    pub fn bound(&self, l: usize) -> Option<u16> {
-        self.bound_by(l, &self.line(l))
-    }
-
-    /// The smallest admissible R of flow l with these figures for I(l, h), found by counting up from L to D.
-    fn bound_by(&self, l: usize, figures: &[u64]) -> Option<u16> {
+    /// The smallest admissible R of flow l, found by counting up from L to D. Of each flow h above it, `figures` has I(l, h), and
+    /// `carries` how long an instance of h may be carried into the window.
+    fn smallest(&self, l: usize, figures: &[u64], carries: &[u16]) -> Option<u16> {
         let own = self.flows[l].record;
-        let above = self.flows.iter().zip(figures);
+        let above = self.flows.iter().zip(figures).zip(carries);
         let above: Vec<(u64, u64, u64)> =
-            above.map(|(flow, &i)| (u64::from(flow.record.deadline), u64::from(flow.record.period), i)).collect();
+            above.map(|((flow, &i), &carry)| (u64::from(carry), u64::from(flow.record.period), i)).collect();
         (own.len..=own.deadline).find(|&r| {
             let r = u64::from(r);
-            let waits: u64 = above.iter().map(|&(d, p, i)| (r + d - 1).div_ceil(p) * i).sum();
+            let waits: u64 = above.iter().map(|&(carry, p, i)| (r + carry - 1).div_ceil(p) * i).sum();
             r >= u64::from(own.len) + waits
         })
+    }
+
+    /// The bound of the flow below as many flows as there are `carries`: how long an instance of each may be carried in.
+    pub fn bound_below(&self, carries: &[u16]) -> Option<u16> {
+        let l = carries.len();
+        self.smallest(l, &self.line(l), carries)
     }
 
     pub fn bounds(&self) -> Result<[u16; MAX_FLOWS], Refusal> {
         self.bounds_by(|l| self.line(l))
     }
 
-    /// The bound of each flow with these figures, zeros at the other places; code 9 for the first flow without one.
+    /// The bound of each flow with these figures, from the highest priority down: an instance of a flow above may be carried in up to
+    /// its bound.
     pub fn bounds_by(&self, line: impl Fn(usize) -> Vec<u64>) -> Result<[u16; MAX_FLOWS], Refusal> {
-        let mut bounds = [0; MAX_FLOWS];
-        for l in 0..self.flows.len() {
-            bounds[l] = self.bound_by(l, &line(l)).ok_or(Refusal { code: NO_BOUND, number: l })?;
+        self.bounds_carrying(line, |_, bound| bound)
+    }
+
+    /// The same by the deadline count, with which no call counts: an instance of a flow above may be carried in up to its deadline.
+    pub fn bounds_by_deadline(&self, line: impl Fn(usize) -> Vec<u64>) -> Result<[u16; MAX_FLOWS], Refusal> {
+        self.bounds_carrying(line, |record, _| record.deadline)
+    }
+
+    /// The bound of each flow, zeros at the other places; code 9 for the first flow without one. `carry` is how long an instance of
+    /// a flow with this record and this bound may be carried into the window of a flow below.
+    fn bounds_carrying(
+        &self,
+        line: impl Fn(usize) -> Vec<u64>,
+        carry: impl Fn(&Record, u16) -> u16,
+    ) -> Result<[u16; MAX_FLOWS], Refusal> {
+        let (mut bounds, mut carries) = ([0; MAX_FLOWS], Vec::new());
+        for (l, flow) in self.flows.iter().enumerate() {
+            bounds[l] = self.smallest(l, &line(l), &carries).ok_or(Refusal { code: NO_BOUND, number: l })?;
+            carries.push(carry(&flow.record, bounds[l]));
         }
         Ok(bounds)
     }

@@ -29,8 +29,14 @@ spoil() {
     echo "$by" >"$work/$copy.by"
 }
 
-spoil bound.rs 's/carry: record.deadline - 1/carry: 0/' "ceil(R / P) instances"
-spoil bound.rs 's/carry: record.deadline - 1/carry: record.deadline/' "one carried slot too many"
+# The carry-in of a flow above, less 1, from when it is let in.
+carry='carry: bound - 1'
+spoil bound.rs "s/$carry/carry: 0/" "ceil(R / P) instances"
+spoil bound.rs "s/$carry/carry: bound/" "ceil((R + R_h) / P) instances"
+spoil bound.rs "s/$carry/carry: record.deadline - 1/" "each flow above carried in up to its deadline"
+spoil bound.rs "s/$carry/carry: if l == 0 { record.deadline - 1 } else { bound - 1 }/" "the first flow carried in up to its deadline"
+spoil bound.rs 's/bound + rival.carry > rival.reach/2 * bound - 1 > rival.reach/' "each flow above carried in up to the bound of the flow itself"
+spoil bound.rs 's/^ *self.count += 1;$/&self.above().iter_mut().for_each(|rival| rival.carry = bound - 1);/' "the carry-in of the flow just above for all"
 spoil bound.rs 's/bound > record.deadline/bound >= record.deadline/' "a bound that equals the deadline refused"
 spoil bound.rs 's/u64::from(columns.marks(step))/((1 << len) - 1)/' "I as the length of the plan above"
 spoil bound.rs 's/taken(&digits, end))/words.map(|word| (word >> (end - len) \& ((1 << len) - 1)).count_ones()).iter().sum())/' "I as the number of marks"
@@ -68,6 +74,7 @@ spoil book.rs 's/sender(step) != receiver(last)/(sender(step) != receiver(last))
 spoil book.rs 's/breaks == between_plans/breaks <= between_plans + 1/' "one jump let through"
 
 by=requests
+spoil bound.rs "s/$carry/carry: record.deadline - 1/" "in adding and in the check of a table, each flow above carried in up to its deadline"
 old='^ *test_figures(&old, table)?;$'
 spoil table.rs "s/$old//" "no code 17"
 spoil table.rs "/$old/{h;d};/let record = test_newcomer/{x;G}" "17 behind 14 and 15"

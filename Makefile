@@ -1,5 +1,5 @@
 # The commands of a newcomer: `make list` shows what the planner does, `make test` is the gate.
-.PHONY: list test bench count fmt
+.PHONY: list test bench count capacity fmt
 
 BOOK = examples/a.book
 
@@ -24,6 +24,11 @@ count:
 	host/archives.sh
 	host/build.sh target/staticlib/libradio.a target/host target/staticlib/libtables.a
 	host/count.sh
+
+# How many flows come in: by the deadline count, by the bounds, and by a simulation of the run.
+capacity:
+	host/build.sh - target/capacity
+	OUT=target/capacity host/run.sh bench capacity
 
 fmt:
 	rt fmt

@@ -100,8 +100,8 @@ fn deadline_of_9(planner: &dyn Planner) -> Result<(), String> {
     same("check with 4", planner.check(&book.bytes()), packed(NO_BOUND, 1))
 }
 
-/// The bound of flow 7 is 3. At P 7, 5 is enough for flow 9: ceil((5 + 3 - 1) / 7) is 1, where ceil((5 + 3) / 7) is 2 and takes it to 7. At P
-/// 6 it isn't: ceil((5 + 3 - 1) / 6) is 2 and takes it to 7, where ceil(5 / 6) is 1.
+/// The bound of flow 7 is 3. At P 7, 5 is enough for flow 9: ceil((5 + 3 - 1) / 7) is 1, where ceil((5 + 3) / 7) is 2 and takes it to 7.
+/// At P 6 it isn't: ceil((5 + 3 - 1) / 6) is 2 and takes it to 7, where ceil(5 / 6) is 1.
 fn period_of_7(planner: &dyn Planner) -> Result<(), String> {
     for (period, bound) in [(7, 5), (6, 7)] {
         let mut book = book_a();

@@ -9,6 +9,7 @@ pub mod answer;
 pub mod areas;
 pub mod asked;
 pub mod call;
+pub mod capacity;
 pub mod cases;
 pub mod damage;
 pub mod dice;

@@ -1,13 +1,14 @@
 //! Cases that look inside `plain`: its rules on bare facts, and its five calls on a table.
 
 use crate::answer::*;
+use crate::capacity::{self, by_bounds, by_deadline, by_run, long_enough, rephased, Load, Offer};
 use crate::cases::same;
 use crate::dice::Dice;
-use crate::draft::{book_a, book_b, Draft};
+use crate::draft::{book_a, book_b, Draft, DraftFlow};
 use crate::generate::{accepted, accepted_by_deadline, any, regular, MIDDLE, SMALL};
 use crate::limits::*;
 use crate::memory::{figure_at, PlanBytes, Table, PLAN_BYTES};
-use crate::plain::book::Record;
+use crate::plain::book::{Record, Transmission};
 use crate::plain::rules::{by_choices, by_recursion, Matrix};
 use crate::plain::table::{add, check, read, remove, write};
 use crate::plain::{run, Refusal};
@@ -32,6 +33,8 @@ pub const PLAIN_CASES: &[PlainCase] = &[
     ("17 with the first flow, after 8, ahead of 14 and 15", wrong_figures),
     ("figures that say nothing", ignored_figures),
     ("check of a table by its figures", check_by_figures),
+    ("a run flow by flow is one slot by slot", flow_by_flow),
+    ("a run that is long enough, and what the bounds let in", long_runs),
 ];
 
 fn interference_of_a() -> Result<(), String> {
@@ -289,4 +292,56 @@ fn check_by_figures() -> Result<(), String> {
     let (mut short, refusal) = (table, Refusal { code: BAD_COUNT, number: 0 });
     short.n = 0;
     same("3 ahead of 9", check(&short), Err(refusal))
+}
+
+/// The transmissions of so many slots, unless a deadline within them is missed, by advancing.
+fn slot_by_slot(draft: &Draft, end: usize) -> Option<Vec<Vec<Transmission>>> {
+    let (book, mut grants) = (draft.bytes(), vec![0; GRANT_BYTES * draft.flows.len()]);
+    let mut area = [0; AREA_BYTES];
+    draft.flows.iter().zip(&mut area[SLOT_BYTES..]).for_each(|(flow, done)| *done = flow.plan.len() as u8);
+    let mut slots = Vec::new();
+    for slot in 0..end {
+        let count = run::advance(&book, &mut area, &mut grants).ok()?;
+        let step = |grant: &[u8]| (usize::from(grant[7]), usize::from(grant[8]));
+        slots.push(grants.chunks(GRANT_BYTES).take(count).map(step).collect());
+        let missed = |(flow, &done): (&DraftFlow, &u8)| {
+            let (phase, period) = (usize::from(flow.phase), usize::from(flow.period));
+            let last = slot >= phase && (slot - phase) % period + 1 == usize::from(flow.deadline);
+            last && usize::from(done) < flow.plan.len()
+        };
+        if draft.flows.iter().zip(&area[SLOT_BYTES..]).any(missed) {
+            return None;
+        }
+    }
+    Some(slots)
+}
+
+fn flow_by_flow() -> Result<(), String> {
+    let dice = &mut Dice::new(19);
+    let (mut kept, mut missed) = (0, 0);
+    for _ in 0..300 {
+        let draft = any(dice, &SMALL);
+        let slots = capacity::run(&draft.facts(), 200);
+        same("slots", &slots, &slot_by_slot(&draft, 200))?;
+        kept += usize::from(slots.is_some());
+        missed += usize::from(slots.is_none());
+    }
+    same("some of each", (kept > 50, missed > 50), (true, true))
+}
+
+/// What the deadline count lets in passes by the bounds, and what the bounds let in keeps its deadlines, from any phases. A run that keeps
+/// them for long enough keeps them for longer, and some do not.
+fn long_runs() -> Result<(), String> {
+    let dice = &mut Dice::new(20);
+    let mut missed = 0;
+    for round in 0..40 {
+        let offer = Offer::draw(dice, Load { stretch: 1, short_deadlines: round % 2 == 0 });
+        same("by the bounds", offer.let_in(by_deadline).bounds().is_ok(), true)?;
+        let let_in = offer.let_in(by_bounds);
+        (0..4).try_for_each(|_| same("by a run", by_run(&rephased(dice, &let_in)), true))?;
+        let borne = offer.let_in(|facts, _| by_run(facts));
+        same("a longer run", capacity::run(&borne, 4 * long_enough(&borne)).is_some(), true)?;
+        missed += usize::from(borne.flows.len() < offer.count());
+    }
+    same("some miss a deadline", missed > 10, true)
 }

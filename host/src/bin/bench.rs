@@ -4,8 +4,13 @@
 //!     bench [--rounds N] [--millis N]
 //!     bench rows                           the rows of the first table: book, its name and the call, a tab in between
 //!     bench calls BOOK CALL PLANNER N      makes so many calls of one row, for `host/count.sh` to count their instructions
+//!     bench capacity [--tables N] [--phasings N] [--seed S]
+//!                                          how many flows come in, of those that want to; so many tables for each row, and a run from
+//!                                          so many phasings
 
 use slot_host::answer::{packed, DONE};
+use slot_host::capacity::{Counts, Load};
+use slot_host::dice::Dice;
 use slot_host::draft::{book_a, book_b, Draft};
 use slot_host::generate::regular;
 use slot_host::limits::*;
@@ -22,6 +27,8 @@ const ROUNDS: u64 = 101;
 const MILLIS: u64 = 1;
 /// How many slots are run before the run starts again.
 const LAP: usize = 2_048;
+/// How many tables are drawn for each row of the capacity.
+const TABLES: u64 = 1_000;
 
 fn main() {
     let mut options = Options::from_args();
@@ -31,6 +38,9 @@ fn main() {
     }
     if options.word("calls") {
         return make_calls(options.rest());
+    }
+    if options.word("capacity") {
+        return print_capacity(options);
     }
     let rounds = options.number("--rounds", ROUNDS) as usize;
     let time = Duration::from_millis(options.number("--millis", MILLIS));
@@ -72,6 +82,35 @@ fn make_calls(words: &[String]) {
             work(planner, calls);
         }
     });
+}
+
+fn print_capacity(mut options: Options) {
+    let (tables, phasings) = (options.number("--tables", TABLES), options.number("--phasings", 1));
+    let seed = options.number("--seed", 1);
+    options.finish();
+    println!("{tables} tables for each row, phasings of each run: {phasings}, seed {seed}\n");
+    println!(
+        "| periods | deadlines | flows that come | by the deadline count | by the bounds | by a run | \
+         tables with more by the bounds | with fewer |"
+    );
+    println!("|---|---|---:|---:|---:|---:|---:|---:|");
+    let mut all = Counts::default();
+    for (deadlines, short_deadlines) in [("P", false), ("P / 2 to P", true)] {
+        for stretch in 1..=3 {
+            let (dice, load) = (&mut Dice::new(seed), Load { stretch, short_deadlines });
+            let mut row = Counts::default();
+            (0..tables).for_each(|_| row.add(&Counts::of_a_table(dice, load, phasings)));
+            print_counts(&format!("times {stretch} | {deadlines}"), &row);
+            all.add(&row);
+        }
+    }
+    print_counts("all | all", &all);
+}
+
+fn print_counts(what: &str, counts: &Counts) {
+    let share = |flows: usize| format!("{flows} ({:.1} %)", 100.0 * flows as f64 / counts.came as f64);
+    let [before, now, run] = [counts.by_deadline, counts.by_bounds, counts.by_run].map(share);
+    println!("| {what} | {} | {before} | {now} | {run} | {} | {} |", counts.came, counts.more, counts.fewer);
 }
 
 fn keen() -> &'static dyn Planner {

@@ -147,11 +147,13 @@ pub fn open(slice: &[u8]) -> Result<Sections<'_>, Refusal> {
 }
 
 /// What a valid book says, as lists.
+#[derive(Clone)]
 pub struct Facts {
     pub disturbs: Vec<Vec<bool>>,
     pub flows: Vec<Flow>,
 }
 
+#[derive(Clone)]
 pub struct Flow {
     pub record: Record,
     pub plan: Vec<Transmission>,

@@ -29,18 +29,20 @@ spoil() {
     echo "$by" >"$work/$copy.by"
 }
 
-# The carry-in of a flow above, less 1, from when it is let in.
-carry='carry: bound - 1'
-spoil bound.rs "s/$carry/carry: 0/" "ceil(R / P) instances"
-spoil bound.rs "s/$carry/carry: bound/" "ceil((R + R_h) / P) instances"
-spoil bound.rs "s/$carry/carry: record.deadline - 1/" "each flow above carried in up to its deadline"
-spoil bound.rs "s/$carry/carry: if l == 0 { record.deadline - 1 } else { bound - 1 }/" "the first flow carried in up to its deadline"
-spoil bound.rs 's/bound + rival.carry > rival.reach/2 * bound - 1 > rival.reach/' "each flow above carried in up to the bound of the flow itself"
-spoil bound.rs 's/^ *self.count += 1;$/&self.above().iter_mut().for_each(|rival| rival.carry = bound - 1);/' "the carry-in of the flow just above for all"
-spoil bound.rs 's/bound > record.deadline/bound >= record.deadline/' "a bound that equals the deadline refused"
+# How long a window may be before a second instance of a flow counts, from when the flow is let in.
+alone='record.period + 1 - bound'
+by_deadline='record.period + 1 - record.deadline'
+spoil bound.rs "s/$alone/record.period/" "ceil(R / P) instances"
+spoil bound.rs "s/$alone/record.period - bound/" "ceil((R + R_h) / P) instances"
+spoil bound.rs "s/$alone/$by_deadline/" "each flow above carried in up to its deadline"
+spoil bound.rs "s/$alone/if l == 0 { $by_deadline } else { $alone }/" "the first flow carried in up to its deadline"
+spoil bound.rs 's/if bound > alone {/if 2 * bound > period + 1 {/' "each flow above carried in up to the bound of the flow itself"
+spoil bound.rs 's/^ *self.count += 1;$/&for h in 0..l { self.alone[h] = (self.periods[h] + 1).saturating_sub(bound); }/' "the carry-in of the flow just above for all"
+spoil bound.rs 's/if thirds != 0 {/if false {/' "no more than two instances"
+spoil bound.rs 's/bound <= record.deadline/bound < record.deadline/' "a bound that equals the deadline refused"
 spoil bound.rs 's/u64::from(columns.marks(step))/((1 << len) - 1)/' "I as the length of the plan above"
 spoil bound.rs 's/taken(&digits, end))/words.map(|word| (word >> (end - len) \& ((1 << len) - 1)).count_ones()).iter().sum())/' "I as the number of marks"
-spoil bound.rs 's/bound(record, above)/bound(record, \&mut above[l.saturating_sub(1)..])/' "only the flow just above in the bound"
+spoil bound.rs 's/let above = 0\.\./let above = self.count.saturating_sub(1)../' "only the flow just above in the bound"
 
 # What a node of the plan disturbs, and what a node asked for does. In the upper half of a part are the steps that are sent.
 own='self.nodes\[disturbed\] |= part'
@@ -74,7 +76,7 @@ spoil book.rs 's/sender(step) != receiver(last)/(sender(step) != receiver(last))
 spoil book.rs 's/breaks == between_plans/breaks <= between_plans + 1/' "one jump let through"
 
 by=requests
-spoil bound.rs "s/$carry/carry: record.deadline - 1/" "in adding and in the check of a table, each flow above carried in up to its deadline"
+spoil bound.rs "s/$alone/$by_deadline/" "in adding and in the check of a table, each flow above carried in up to its deadline"
 old='^ *test_figures(&old, table)?;$'
 spoil table.rs "s/$old//" "no code 17"
 spoil table.rs "/$old/{h;d};/let record = test_newcomer/{x;G}" "17 behind 14 and 15"

@@ -75,6 +75,9 @@ const DIGITS: usize = 6;
 /// there. A further step raises it by one from each of its marks on, up to the next rise, which becomes one less: so a
 /// carry starts at each mark, goes on where the count is level, and ends at a rise. At an end stands the most that the
 /// digits hold, and what is taken there is the interference. Returned are the digits, each for all places.
+///
+/// It goes into its callers whatever else is built: left to itself, the compiler puts it into some and not into others.
+#[inline(always)]
 fn worked_out(words: &[u64], ends: u64) -> [u64; DIGITS] {
     let mut digits = [ends; DIGITS];
     let mut level = !ends;
@@ -95,52 +98,68 @@ fn worked_out(words: &[u64], ends: u64) -> [u64; DIGITS] {
 }
 
 /// What has been taken at an end.
+#[inline(always)]
 fn taken(digits: &[u64; DIGITS], end: u32) -> u32 {
     digits.iter().rev().fold(0, |taken, digit| taken << 1 | (!digit >> end & 1) as u32)
 }
 
-/// A higher flow as the bound sees it: `carry` is its own bound less 1, `reach` is what R and this may come to before one more
-/// instance counts, and `cost` what each instance adds.
-#[derive(Clone, Copy, Default)]
-pub struct Rival {
-    reach: u32,
-    period: u32,
-    carry: u32,
-    cost: u32,
-}
-
-impl Rival {
-    /// Puts it before its first instance; a flow that costs nothing never comes to count.
-    pub fn charge(&mut self, cost: u32) {
-        self.cost = cost;
-        self.reach = if cost == 0 { u32::MAX } else { 0 };
-    }
-}
-
-/// Flows let in one by one, highest priority first.
+/// Flows let in one by one, highest priority first, and what the bound of the next one reads of each.
 pub struct Admission {
-    rivals: [Rival; MAX_FLOWS],
+    /// What an instance costs the next flow.
+    costs: [u32; MAX_FLOWS],
+    /// How long a window may be before a second instance counts: the period less what is carried in, which is the bound less 1.
+    alone: [u32; MAX_FLOWS],
+    periods: [u32; MAX_FLOWS],
     count: usize,
 }
 
 impl Admission {
     pub fn new() -> Admission {
-        Admission { rivals: [Rival::default(); MAX_FLOWS], count: 0 }
+        Admission { costs: [0; MAX_FLOWS], alone: [0; MAX_FLOWS], periods: [0; MAX_FLOWS], count: 0 }
     }
 
-    /// The flows that are in, each to be charged with what it costs the next one.
-    pub fn above(&mut self) -> &mut [Rival] {
-        &mut self.rivals[..self.count]
+    /// What each flow that is in costs the next one.
+    pub fn costs(&mut self) -> &mut [u32] {
+        &mut self.costs[..self.count]
     }
 
     /// The bound of the next flow, which is in from then on; none within its deadline is code 9.
     #[inline]
     pub fn admit(&mut self, record: Record) -> Result<u32, u32> {
-        let (l, above) = (self.count, &mut self.rivals[..self.count]);
-        let bound = bound(record, above).ok_or(packed(NO_BOUND, l))?;
-        self.rivals[l] = Rival { reach: 0, period: record.period, carry: bound - 1, cost: 0 };
+        let l = self.count;
+        let bound = self.bound(record).ok_or(packed(NO_BOUND, l))?;
+        self.alone[l] = record.period + 1 - bound;
+        self.periods[l] = record.period;
         self.count += 1;
         Ok(bound)
+    }
+
+    /// R rises from L and one instance of each flow above, which counts in any window. Whose second one counts is told for many flows at
+    /// a time, without a branch; only where a third one does are they divided out.
+    #[inline]
+    fn bound(&self, record: Record) -> Option<u32> {
+        let above = 0..self.count;
+        let (costs, alone, periods) = (&self.costs[above.clone()], &self.alone[above.clone()], &self.periods[above]);
+        let least = record.len + costs.iter().sum::<u32>();
+        let mut bound = least;
+        while bound <= record.deadline {
+            let (mut needed, mut thirds) = (least, 0);
+            for ((&cost, &alone), &period) in costs.iter().zip(alone).zip(periods) {
+                needed += if bound > alone { cost } else { 0 };
+                thirds |= if bound > alone + period { cost } else { 0 };
+            }
+            if thirds != 0 {
+                let all = costs.iter().zip(alone).zip(periods);
+                let instances = |alone: u32, period: u32| (bound + 2 * period - alone - 1) / period;
+                needed =
+                    record.len + all.map(|((&cost, &alone), &period)| cost * instances(alone, period)).sum::<u32>();
+            }
+            if needed == bound {
+                return Some(bound);
+            }
+            bound = needed;
+        }
+        None
     }
 }
 
@@ -155,7 +174,7 @@ impl Book<'_> {
         // The nodes of the flows above.
         let mut nodes = 0;
         for (l, plan) in self.plans().enumerate() {
-            self.weigh(plan, self.plans(), nodes, admission.above(), Rival::charge);
+            self.weigh(plan, self.plans(), nodes, admission.costs(), |cost, taken| *cost = taken);
             admission.admit(self.record(l))?;
             nodes |= nodes_of(plan);
         }
@@ -217,25 +236,4 @@ impl Book<'_> {
 /// A figure is at most the length of the plan above.
 fn put(figure: &mut u8, taken: u32) {
     *figure = taken as u8;
-}
-
-/// R rises from L, by one instance at a time, until every rival's instances are paid for or D is passed.
-#[inline]
-fn bound(record: Record, rivals: &mut [Rival]) -> Option<u32> {
-    let mut bound = record.len;
-    loop {
-        let before = bound;
-        for rival in rivals.iter_mut() {
-            while bound + rival.carry > rival.reach {
-                rival.reach += rival.period;
-                bound += rival.cost;
-                if bound > record.deadline {
-                    return None;
-                }
-            }
-        }
-        if bound == before {
-            return (bound <= record.deadline).then_some(bound);
-        }
-    }
 }

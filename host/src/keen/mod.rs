@@ -1,6 +1,6 @@
 //! The yardstick: the three calls, and those on a table that are timed, as a careful engineer would ship them. Each section of
 //! the book is tested in one go, node sets are 64-bit masks, the interference of several flows is worked out side by side in one
-//! word, the bound rises without a division, and nothing is allocated or copied but a table.
+//! word, the bound divides only where three instances of a flow count, and nothing is allocated or copied but a table.
 
 mod book;
 mod bound;

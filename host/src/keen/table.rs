@@ -68,8 +68,8 @@ fn bounds(table: &Table) -> Result<[u16; MAX_FLOWS], u32> {
     let mut bounds = [0; MAX_FLOWS];
     let used = &table.records[..RECORD_BYTES * usize::from(table.m)];
     for (l, record) in used.chunks_exact(RECORD_BYTES).enumerate() {
-        for (rival, &figure) in admission.above().iter_mut().zip(above(&table.figures, l)) {
-            rival.charge(u32::from(figure));
+        for (cost, &figure) in admission.costs().iter_mut().zip(above(&table.figures, l)) {
+            *cost = u32::from(figure);
         }
         bounds[l] = admission.admit(Record::read(record))? as u16;
     }

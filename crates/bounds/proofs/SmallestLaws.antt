@@ -6,7 +6,7 @@ use mathlib.Core.Bool.{Bool, false, _&&_, and-false}
 use mathlib.Core.List.{List}
 use mathlib.Core.Logic.{⊎-elim}
 use native.Mathlib.Omega.{arith}
-use native.Mathlib.Nat.{add-le-add, mul-le-mul}
+use native.Mathlib.Nat.{add-le-add, mul-le-mul, mul-le-mul-right}
 use lib.Dec.{leb}
 use lib.ListN.{getD}
 use borrow.Author.Tests.{le-leb, lt-leb}
@@ -14,8 +14,8 @@ use Rattle.trade.specs.Facts.{Facts}
 use Rattle.trade.specs.Bound.{instances, Measure, slotsNeeded, admissible, boundBy}
 use Rattle.trade.proofs.First.{lt-or-ge, first-unique, first-none, first-cong}
 use Rattle.trade.proofs.Sums.{sum-mono, sum-cong}
-use Rattle.trade.proofs.Instances.{instances-mono}
-use Rattle.bounds.specs.Terms.{Terms, neededIn, smallestIn}
+use Rattle.trade.proofs.Instances.{instances-mono, instances-least}
+use Rattle.bounds.specs.Terms.{Terms, neededIn, leastIn, smallestIn}
 
 module _ (needed : ℕ → ℕ) (len deadline : ℕ) where
   -- R is from L to D, and at least what is needed within it
@@ -29,6 +29,12 @@ module _ (needed : ℕ → ℕ) (len deadline : ℕ) where
   -- no R below L is, and past one that needs more none is up to what it needs
   pub none-at-first : NoneBelow len
   none-at-first j h = rw (lt-leb len j h)
+
+  pub none-under : (least : ℕ) → ((r : ℕ) → len ≤ r → least ≤ needed r) → NoneBelow least
+  none-under least more j h =
+      ⊎-elim (λ (b : j < len). none-at-first j b)
+      (λ (b : len ≤ j). rw (lt-leb (needed j) j (omega (arith, more j b))) (and-false (leb len j && leb j deadline)))
+      (lt-or-ge j len)
 
   pub none-further : ((r s : ℕ) → r ≤ s → needed r ≤ needed s) → (r : ℕ) → NoneBelow r → NoneBelow (needed r)
   none-further grows r before j h =
@@ -72,6 +78,22 @@ needed-grows len k figures periods carries t r s h =
     mul-le-mul
     (instances-mono r s (getD carries i 0) (getD carries i 0) (getD periods i 0) (getD periods i 0) (t .period i l .0) (omega arith) h (omega arith))
     (omega arith)))
+
+-- and within any R is at least one instance of each flow above
+pub needed-least :
+    (len k : ℕ) (figures periods carries : List ℕ)
+    → Terms k figures periods carries
+    → (r : ℕ)
+    → 1 ≤ r
+    → leastIn len k figures ≤ neededIn len k figures periods carries r
+unfolding neededIn leastIn
+needed-least len k figures periods carries t r h =
+    add-le-add (omega arith)
+    (sum-mono (λ (i : ℕ). getD figures i 0) (λ (i : ℕ). instances r (getD carries i 0) (getD periods i 0) * getD figures i 0) k
+    (λ i l. at-least-one (getD figures i 0) (instances-least r (getD carries i 0) (getD periods i 0) h (t .carry i l .0) (t .period i l .0))))
+  where
+    at-least-one : {n : ℕ} (cost : ℕ) → 1 ≤ n → cost ≤ n * cost
+    at-least-one {n} cost h = omega (arith, mul-le-mul-right cost h)
 
 -- a bound is the smallest R that is at least the slots needed within it
 pub bound-is-smallest :

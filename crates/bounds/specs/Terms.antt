@@ -14,6 +14,10 @@ unfoldable pub neededIn : ℕ → ℕ → List ℕ → List ℕ → List ℕ →
 neededIn len k figures periods carries R =
     len + sumTo (λ h. instances R (getD carries h 0) (getD periods h 0) * getD figures h 0) k
 
+-- those that it needs within any: its own, and one instance of each flow above it
+unfoldable pub leastIn : ℕ → ℕ → List ℕ → ℕ
+leastIn len k figures = len + sumTo (λ h. getD figures h 0) k
+
 -- the smallest R from L to D that is at least what is needed within it; D + 1 where there is none
 unfoldable pub smallestIn : (ℕ → ℕ) → ℕ → ℕ → ℕ
 smallestIn needed len deadline = first (λ R. leb len R && leb R deadline && leb (needed R) R) (suc deadline)

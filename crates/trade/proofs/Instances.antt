@@ -57,3 +57,11 @@ instances-mono R S carry other period shorter p q h k = ceil-mono (R + carry - 1
 pub instances-most : (R carry period : ℕ) → 1 ≤ period → instances R carry period ≤ R + carry
 unfolding instances
 instances-most R carry period p = omega (arith, ceil-most (R + carry - 1) period p)
+
+-- at least one instance counts in any window
+pub instances-least : (R carry period : ℕ) → 1 ≤ R → 1 ≤ carry → 1 ≤ period → 1 ≤ instances R carry period
+unfolding instances
+instances-least R carry period r c p =
+    ⊎-elim (λ (h : ceil (R + carry - 1) period < 1). let none : ceil (R + carry - 1) period ≤ 0 = omega arith in
+    absurd (omega (arith, ceil-least (R + carry - 1) period 0 p .0 none)))
+    (λ (h : 1 ≤ ceil (R + carry - 1) period). h) (lt-or-ge (ceil (R + carry - 1) period) 1)

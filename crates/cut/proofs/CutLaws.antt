@@ -264,3 +264,21 @@ out-again at end held l within room s kept e f =
     ∙ ap (λ (n : ℕ). take (end + k) l ++ drop n s) (length-take-le (end + k) l room)
     ∙ ap (λ (u : List ℕ). take (end + k) l ++ u) back
     ∙ take-append-drop (end + k) l
+
+-- and the bytes that went stand behind those in use
+pub went-behind :
+    (at end size : ℕ) (l : List ℕ) → at ≤ end → end + size ≤ length l → part end size (turned at (at + size) (end + size) l) ≡ part at size l
+unfolding part turned slice
+went-behind at end size l h k =
+    let a = take at l in
+    let q = slice (at + size) (end + size) l in
+    let p = slice at (at + size) l in
+    let r = drop (end + size) l in
+    let front : length a ≡ at = length-take-le at l (omega arith) in
+    let both : length (a ++ q) ≡ end = length-append a q ∙ omega (arith, front, length-part (at + size) (end + size) l k) in
+    let went : length p ≡ size = length-part at (at + size) l (omega arith) ∙ omega arith in
+    let same : p ≡ take size (drop at l) = ap (drop at) (take-add at size l) ∙ drop-at a (take size (drop at l)) at front in
+    ap (λ (b : List ℕ). take size (drop end b)) (sym (append-assoc a q (p ++ r)))
+    ∙ ap (take size) (drop-at (a ++ q) (p ++ r) end both)
+    ∙ take-at p r size went
+    ∙ same

@@ -15,8 +15,8 @@ turn-unique κs a r r' s s' p q = one-result p q
 pub put-in-unique : (κs : _) (a : _) (r r' : _) (s s' : _) → put-in.Post κs a r s → put-in.Post κs a r' s' → (now (s .0) ≡ now (s' .0)) × (now (s .1 .1 .1 .0) ≡ now (s' .1 .1 .1 .0))
 put-in-unique κs a r r' s s' p q = (one-result (p .0) (q .0), one-result (p .1) (q .1))
 
-pub take-out-unique : (κs : _) (a : _) (r r' : _) (s s' : _) → take-out.Post κs a r s → take-out.Post κs a r' s' → now (s .0) ≡ now (s' .0)
-take-out-unique κs a r r' s s' p q = one-result p q
+pub take-out-unique : (κs : _) (a : _) (r r' : _) (s s' : _) → take-out.Post κs a r s → take-out.Post κs a r' s' → (now (s .0) ≡ now (s' .0)) × (now (s .1 .1 .1 .0) ≡ now (s' .1 .1 .1 .0))
+take-out-unique κs a r r' s s' p q = (one-result (p .0) (q .0), one-result (p .1) (q .1))
 
 pub clear-unique : (κs : _) (a : _) (r r' : _) (s s' : _) → clear.Post κs a r s → clear.Post κs a r' s' → now (s .0) ≡ now (s' .0)
 clear-unique κs a r r' s s' p q = one-result p q

@@ -47,12 +47,14 @@ pub fn put_in(section: &mut [u8], at: usize, end: usize, held: &mut [u8])
     turn(section, at, end, end + size);
 }
 
-// As many bytes as are held go from a place of those in use, which then end at another, and the held ones stand there again.
+// As many bytes as are held go from a place of those in use, which then end at another, and the held ones stand there again. Those that went are
+// held in their stead.
 pub fn take_out(section: &mut [u8], at: usize, end: usize, held: &mut [u8])
     requires { ⌜ (length (now held) ≤ mostSteps * stepBytes) × (at ≤ end) × (end + length (now held) ≤ length (now section)) ⌝ }
     ensures { λ _. ⌜ now (section .exit)
         ≡ over (spliced at (at + length (now (held .entry))) [] (take (end + length (now (held .entry))) (now (section .entry))) ++ now (held .entry))
         (now (section .entry)) ⌝ }
+    ensures { λ _. ⌜ now (held .exit) ≡ part at (length (now (held .entry))) (now (section .entry)) ⌝ }
 {
     let size = held.len();
     turn(section, at, at + size, end + size);

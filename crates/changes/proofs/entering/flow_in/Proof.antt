@@ -135,7 +135,7 @@ records-as-they-were c =
     let a = begun b .args in
     let p = begun b .pre in
     let put = recorded b .put-in in
-    c .take-out .ensures
+    c .take-out .ensures .0
     ∙ out-again (recordBytes * a .place) (recordBytes * now (a .flows)) (now (a .flow)) (now (a .records)) (omega (arith, p .within))
     (omega (arith, p .recorded, p .room, p .old .memory .records)) (put .last .0) (put .last .1 .1 .1 .0) (put .ensures .0) (put .ensures .1)
 
@@ -146,7 +146,7 @@ steps-as-they-were c =
     let b = tested (refused (c .before .before .before .before .before .before .before) .before .before .before .before) in
     let a = begun b .args in
     let put = b .put-in2 in
-    c .take-out2 .ensures
+    c .take-out2 .ensures .0
     ∙ out-again (stepBytes * summed b .before .before .steps-before .result) (stepBytes * summed b .steps-before2 .result) (now (a .plan))
     (now (a .steps)) (first (summed b)) (room (summed b)) (put .last .0) (put .last .1 .1 .1 .0) (put .ensures .0) (put .ensures .1)
 

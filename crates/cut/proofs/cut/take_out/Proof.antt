@@ -2,8 +2,10 @@
 -- over them. Assumes nothing.
 use mathlib.Core.Path.{_∙_, ap}
 use denote.Ref.{now}
+use lib.ListN.{length}
+use Rattle.trade.specs.Bytes.{part}
 use Rattle.numbers.specs.Pasting.{pastedAt}
-use Rattle.cut.proofs.CutLaws.{left-in-turn}
+use Rattle.cut.proofs.CutLaws.{left-in-turn, went-behind}
 use borrow.Author.Needs.{needs}
 use Rattle.cut.proofs.cut.take_out.Statement.{statement}
 use Rattle.cut.proofs.cut.take_out.Tie as tie
@@ -14,9 +16,14 @@ returns c =
     let first = second .before .before .before .before .before in
     let s = first .before .before .before .before in
     let a = s .args in
-    second .swap .ensures .0
-    ∙ ap (pastedAt (a .end) (now (a .held))) (first .turn .ensures)
-    ∙ left-in-turn (a .at) (a .end) (now (a .held)) (now (a .section)) (s .pre .1) (s .pre .2)
+    let turned = first .turn .ensures in (
+      second .swap .ensures .0
+          ∙ ap (pastedAt (a .end) (now (a .held))) turned
+          ∙ left-in-turn (a .at) (a .end) (now (a .held)) (now (a .section)) (s .pre .1) (s .pre .2),
+      second .swap .ensures .1
+          ∙ ap (part (a .end) (length (now (a .held)))) turned
+          ∙ went-behind (a .at) (a .end) (length (now (a .held))) (now (a .section)) (s .pre .1) (s .pre .2),
+    )
 
 pub take-out-spec : {M : Type 1} → statement M
 take-out-spec =

@@ -52,7 +52,7 @@ module _ (needed : ℕ → ℕ) (len deadline : ℕ) where
   unfolding smallestIn
   found-none r d before = first-none enough (suc deadline) (λ j h. before j (omega arith)) ∙ omega arith
 
--- what is needed that agrees from 0 to D has the same smallest R
+-- what is needed that agrees has the same smallest R
 pub smallest-same :
     (needed other : ℕ → ℕ) (len deadline : ℕ)
     → ((R : ℕ) → needed R ≡ other R)

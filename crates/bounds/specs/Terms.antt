@@ -14,7 +14,7 @@ unfoldable pub neededIn : ℕ → ℕ → List ℕ → List ℕ → List ℕ →
 neededIn len k figures periods carries R =
     len + sumTo (λ h. instances R (getD carries h 0) (getD periods h 0) * getD figures h 0) k
 
--- those that it needs within any: its own, and one instance of each flow above it
+-- those that it needs at the least: its own, and one instance of each flow above it
 unfoldable pub leastIn : ℕ → ℕ → List ℕ → ℕ
 leastIn len k figures = len + sumTo (λ h. getD figures h 0) k
 

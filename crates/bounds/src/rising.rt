@@ -44,7 +44,7 @@ fn slots_needed(
     sum
 }
 
-// The slots that a flow needs within any number of slots: its own, and one instance of each flow above it.
+// The slots that a flow needs at the least: its own, and one instance of each flow above it.
 fn least_needed(len: u32, above: usize, figures: &[u32; Flow::MOST]) -> u32
     requires { ⌜ (above ≤ mostFlows) × (len ≤ mostSteps) × ((h : ℕ) → h < above → getD (now figures) h 0 ≤ 255) ⌝ }
     ensures { λ n. ⌜ n ≡ leastIn len above (now (figures .entry)) ⌝ }

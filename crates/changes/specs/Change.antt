@@ -1,15 +1,8 @@
 -- What a change of a table owes. Leans on the trade's calls.
-use Prim.Native.Nat.{_*_, _≤_}
 use mathlib.Core.Path.{_≡_}
-use mathlib.Core.Bool.{cond}
-use lib.ListN.{length}
-use Rattle.trade.specs.Limits.{mostNodes, mostFlows, rowBytes, recordBytes, stepBytes}
 use Rattle.trade.specs.Kept.{Tabled}
-use Rattle.trade.specs.Facts.{factsOf, allSteps}
-use Rattle.trade.specs.Answers.{isDone, firstOf, noNumber}
-use Rattle.trade.specs.Codes.{code6}
 use Rattle.trade.specs.Calls as trade
-use Rattle.trade.specs.Calls.{Adding, Removing, tableRules, addOf, removeOf}
+use Rattle.trade.specs.Calls.{Adding, Removing, addOf, removeOf}
 use Rattle.trade.specs.declared.answer.Answer.{Answer}
 use Rattle.table.specs.Table.{keptIn}
 use Rattle.changes.specs.declared.change.Changed.{Changed}

@@ -169,10 +169,6 @@ module _ (measured : Facts → Measure) (waits : Waits) (x : Ran) (g : AcceptedR
   deadline-met : (l : ℕ) → l < facts x .flows → reported (checkBy measured (x .book)) l ≤ facts x .deadline l
   deadline-met l l< = omega (arith, reports l l<, accepted-admissible measured (x .book) (g .accepted) l l< .deadline)
 
-  bound-least : (l : ℕ) → l < facts x .flows → 1 ≤ reported (checkBy measured (x .book)) l
-  bound-least l l< =
-      omega (arith, reports l l<, bound-positive (accepted-bounded measured (x .book) (g .accepted) (g .sound .carries)) l l<)
-
   -- each instance is kept within the reported bound, if its last slot by that bound has been run
   instance-kept :
       (l : ℕ) (v : Instance)

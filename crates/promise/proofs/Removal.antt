@@ -32,7 +32,7 @@ use Rattle.trade.proofs.Used.{Holds, used-same, table-same, table-facts, table-
 use Rattle.trade.proofs.RoundTrip.{nineBy, book-said, kept-right, kept-then-check, write-then-check}
 use Rattle.trade.proofs.Kept.{figures-at}
 use Rattle.trade.proofs.Slot.{going-below, grants-append, length-grants}
-use Rattle.trade.proofs.Prefix.{greedy-local, Behind, going-behind, prefix-front}
+use Rattle.trade.proofs.Prefix.{greedy-local, Behind, going-behind, prefix-runs}
 use Rattle.trade.proofs.Taken.{out-most}
 use Rattle.trade.proofs.TakenRules.{alike-above}
 use Rattle.trade.proofs.Removed.{holds, taken, after-passed, bound-removed, remove-done, left-facts}
@@ -213,8 +213,8 @@ pub same-above :
     → t .0 < endOfClock
     → SameAbove place (facts x) (facts y) (x .advanced t) (y .advanced t)
 same-above x y g h place a mx my t cx cy clock =
-    let (same, bytes) = prefix-front greedy greedy-local place (facts y) (facts x) a my mx (t .0) in
-    let long : length (front y h place my t cy clock) ≡ length (front x g place mx t cx clock) = ap length same in
+    let same = prefix-runs greedy greedy-local place (facts y) (facts x) a my mx (t .0) in
+    let long : length (front y h place my t cy clock) ≡ length (front x g place mx t cx clock) = ap length (same .goes) in
     record {
       count = length (front x g place mx t cx clock);
       counted = (
@@ -223,7 +223,7 @@ same-above x y g h place a mx my t cx cy clock =
       );
       bytes =
           front-bytes x g place mx t cx clock
-          ∙ sym bytes
+          ∙ sym (same .bytes)
           ∙ sym (ap (λ (n : ℕ). take (grantBytes * n) (y .advanced t .grants)) (sym long) ∙ front-bytes y h place my t cy clock);
       above = λ j l. (above x g place mx t cx clock j l, above y h place my t cy clock j (omega (arith, long)));
       others = others x g place mx t cx clock;

@@ -33,25 +33,20 @@ pub record SameAbove (place : ℕ) (f g : Facts) (before after : Advanced) : Typ
   pub others : (j : ℕ) → count ≤ j → j < before .answer .number → GrantOf f before j place (f .flows)
   pub others-after : (j : ℕ) → count ≤ j → j < after .answer .number → GrantOf g after j place (g .flows)
 
+-- what a check says of what is left: no flow's bound has risen, the flows below the place one place higher
+abbrev pub NoHigher : Removing → Checked → Changed → Checked → Type 0
+NoHigher r checked changed left =
+    (l : ℕ) → l < changed .table .sections .flows → reported left l ≤ reported checked (beforeOut (r .place) l)
+
 -- of a flow that may go, and what remove gave:
 pub record Unhurt (p : Program) (r : Removing) (checked : Checked) (changed : Changed) : Type 0 where
   -- 1. remove is done, and the new table is accepted: by the check of the table, and by check of its book;
   pub done : Done (changed .answer)
   pub accepted : (left : Checked) → p .checkTable (changed .table) left → Done (left .answer)
   pub accepted-book : (left : Checked) → p .check (bookOf (changed .table .sections)) left → Done (left .answer)
-  -- 2. no remaining flow's bound has risen, the flows below the place one place higher;
-  pub no-higher :
-      (left : Checked)
-      → p .checkTable (changed .table) left
-      → (l : ℕ)
-      → l < changed .table .sections .flows
-      → reported left l ≤ reported checked (beforeOut (r .place) l)
-  pub no-higher-book :
-      (left : Checked)
-      → p .check (bookOf (changed .table .sections)) left
-      → (l : ℕ)
-      → l < changed .table .sections .flows
-      → reported left l ≤ reported checked (beforeOut (r .place) l)
+  -- 2. no remaining flow's bound has risen, by either;
+  pub no-higher : (left : Checked) → p .checkTable (changed .table) left → NoHigher r checked changed left
+  pub no-higher-book : (left : Checked) → p .check (bookOf (changed .table .sections)) left → NoHigher r checked changed left
   -- 3. the flows above the place have the same grants in every slot of the two runs, up to the end of the clock
   pub same-grants :
       (x y : Ran)

@@ -1,6 +1,6 @@
 -- Lines of figures carried over a change: a flow that stays keeps the figures of the flows that stay, and all but a newcomer's are read from
 -- where they stood. Leans on KeptLaws and Padded. Assumes nothing.
-use Prim.Native.Nat.{ℕ, suc, _+_, _-_, _≤_, _<_}
+use Prim.Native.Nat.{ℕ, _+_, _-_, _≤_, _<_}
 use mathlib.Core.Path.{_≡_, refl, sym, _∙_, ap, ap₂, subst}
 use mathlib.Core.Bool.{Bool, true, false, cond}
 use mathlib.Core.Logic.{⊎-elim}

@@ -8,14 +8,14 @@ use mathlib.Core.List.{List}
 use native.Mathlib.Omega.{arith}
 use lib.Dec.{leb}
 use Rattle.trade.specs.Limits.{mostFlows}
-use Rattle.trade.specs.First.{first, some, listTo}
+use Rattle.trade.specs.First.{first, listTo}
 use Rattle.trade.specs.Bytes.{padded}
 use Rattle.trade.specs.Facts.{Facts, factsOf, factsIn, firstStep, stepOf}
 use Rattle.trade.specs.Conflict.{conflict}
 use Rattle.trade.specs.Interference.{matrix, worstPath, interference}
-use Rattle.trade.specs.Bound.{Measure, byInterference, byDeadline, slotsNeeded, admissible, boundBy, boundlessBy, acceptedBy, code9By}
+use Rattle.trade.specs.Bound.{Measure, byInterference, byDeadline, slotsNeeded, admissible, boundBy, boundlessBy, code9By}
 use Rattle.trade.specs.Calls.{boundsBy}
-use Rattle.trade.proofs.First.{first-cong, some-cong}
+use Rattle.trade.proofs.First.{first-cong}
 use Rattle.trade.proofs.Sums.{sum-cong, listTo-same}
 use Rattle.trade.proofs.Conflict.{conflict-same}
 use Rattle.trade.proofs.Interference.{paths-agree}
@@ -134,10 +134,7 @@ module _ (k : ℕ) (f g : Facts) (a : Alike k f g) where
     pub bound-prefix : (l : ℕ) → l < k → boundBy f μ l ≡ boundBy g ν l
     bound-prefix = bound-times k f g (alike-times a) μ ν same
 
-    pub boundless-prefix : (l : ℕ) → l < k → boundlessBy f μ l ≡ boundlessBy g ν l
-    boundless-prefix = boundless-times k f g (alike-times a) μ ν same
-
--- facts of the same times on all their flows have the same acceptance, code 9 and bounds
+-- facts of the same times on all their flows have the same code 9 and bounds
 module _
     (f g : Facts)
     (m : f .flows ≡ g .flows)
@@ -145,13 +142,6 @@ module _
     (μ ν : Measure)
     (same : SameMeasure (f .flows) μ ν)
   where
-    pub accepted-times : acceptedBy f μ ≡ acceptedBy g ν
-    unfolding acceptedBy
-    accepted-times =
-        ap not
-        (some-cong (boundlessBy f μ) (boundlessBy g ν) (f .flows) (boundless-times (f .flows) f g t μ ν same)
-        ∙ ap (some (boundlessBy g ν)) m)
-
     pub code9-times : code9By f μ ≡ code9By g ν
     unfolding code9By
     code9-times =
@@ -172,9 +162,6 @@ module _
     (μ ν : Measure)
     (same : SameMeasure (f .flows) μ ν)
   where
-    pub accepted-alike : acceptedBy f μ ≡ acceptedBy g ν
-    accepted-alike = accepted-times f g m (alike-times a) μ ν same
-
     pub code9-alike : code9By f μ ≡ code9By g ν
     code9-alike = code9-times f g m (alike-times a) μ ν same
 

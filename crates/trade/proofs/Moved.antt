@@ -2,8 +2,6 @@
 -- Interference. Assumes nothing.
 use Prim.Native.Nat.{ℕ, suc, _+_, _-_, _*_, _≤_, _<_}
 use mathlib.Core.Path.{_≡_, refl, sym, _∙_, ap, ap₂}
-use mathlib.Core.Bool.{Bool}
-use mathlib.Core.List.{List}
 use native.Mathlib.Omega.{arith}
 use lib.ListN.{length}
 use Rattle.trade.specs.Limits.{stepBytes}
@@ -11,9 +9,8 @@ use Rattle.trade.specs.First.{sumTo}
 use Rattle.trade.specs.Bytes.{byte}
 use Rattle.trade.specs.Layout.{Sections, field}
 use Rattle.trade.specs.Facts.{Facts, stepIn, factsOf, firstStep, allSteps, stepOf}
-use Rattle.trade.specs.Conflict.{conflict}
 use Rattle.trade.specs.Interference.{matrix, worstPath, interference}
-use Rattle.trade.specs.Exchange.{spliced, Exchange, recut}
+use Rattle.trade.specs.Exchange.{Exchange, recut}
 use Rattle.trade.specs.declared.node.Transmission.{Transmission}
 use Rattle.trade.proofs.Sums.{sum-cong, sum-next, sum-split, sum-rest, sum-le}
 use Rattle.trade.proofs.Interference.{paths-agree}

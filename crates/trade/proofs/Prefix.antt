@@ -215,19 +215,19 @@ module _
           alike-grant k f g a r q s u b i (omega arith) busy)
           ∙ ap (grantsOf (grantOf g q u)) alike-granted
 
--- the same of the first k flows are granted, in the same bytes
-pub record SamePrefix (waits : Waits) (k : ℕ) (f g : Facts) (r q : Releases) (s u : State) : Type 0 where
-  pub goes : (i : ℕ) → i < k → among (grantedBy waits f r s) i ≡ among (grantedBy waits g q u) i
-  pub bytes : (i : ℕ) → i < k → among (grantedBy waits f r s) i ≡ true → grantOf f r s i ≡ grantOf g q u i
+-- those of the first k that go
+abbrev pub frontOf : Waits → ℕ → Facts → Releases → State → List ℕ
+frontOf waits k f r s = going (waits f r s) (unfinished f r s) k
+
+-- the same of the first k flows go, in the same order, and their grants are the same bytes
+pub record SameFront (waits : Waits) (k : ℕ) (f g : Facts) (r q : Releases) (s u : State) : Type 0 where
+  pub goes : frontOf waits k f r s ≡ frontOf waits k g q u
+  pub bytes : grantsOf (grantOf f r s) (frontOf waits k f r s) ≡ grantsOf (grantOf g q u) (frontOf waits k g q u)
 
 -- THE FIRST k FLOWS DECIDE THEIR OWN GRANTS, in every slot of the run from the start
 module _ (waits : Waits) (local : Local waits) (k : ℕ) (f g : Facts) (a : Alike k f g) (m : k ≤ f .flows) (n : k ≤ g .flows) where
   abbrev runOf : Facts → ℕ → State
   runOf h t = runBy waits h (periodic h (h .phase)) t
-
-  -- those of the first k that go
-  abbrev front : Rule → Facts → Releases → State → List ℕ
-  front rule h r s = going rule (unfinished h r s) k
 
   level-on : (t : ℕ) → Abreast k (runOf f t) (runOf g t) → Level k (periodic f (f .phase) t) (periodic g (g .phase) t) (runOf f t) (runOf g t)
   level-on t b = level-periodic k f g (f .phase) (g .phase) t (runOf f t) (runOf g t) a (a .phase) b
@@ -239,35 +239,18 @@ module _ (waits : Waits) (local : Local waits) (k : ℕ) (f g : Facts) (a : Alik
       let b : Abreast k (runOf f t) (runOf g t) = prefix-abreast t in
       alike-on waits local k f g a (periodic f (f .phase) t) (periodic g (g .phase) t) (runOf f t) (runOf g t) (level-on t b) m n (b .slot)
 
-  pub prefix-runs : (t : ℕ) → SamePrefix waits k f g (periodic f (f .phase) t) (periodic g (g .phase) t) (runOf f t) (runOf g t)
-  unfolding grantedBy
+  pub prefix-runs : (t : ℕ) → SameFront waits k f g (periodic f (f .phase) t) (periodic g (g .phase) t) (runOf f t) (runOf g t)
   prefix-runs t =
       let r : Releases = periodic f (f .phase) t in
       let q : Releases = periodic g (g .phase) t in
       let b = level-on t (prefix-abreast t) in
+      let same = alike-going waits local k f g a r q (runOf f t) (runOf g t) b in
       record {
-        goes = alike-among waits local k f g a r q (runOf f t) (runOf g t) b m n;
+        goes = same;
         bytes =
-            λ i h e.
-            alike-grant k f g a r q (runOf f t) (runOf g t) b i h
-            (going-below (waits f r (runOf f t)) (unfinished f r (runOf f t)) (f .flows) i e .1);
-      }
-
-  -- so they stand in front of both, in the same order, and their grants are the same bytes
-  pub prefix-front :
-      (t : ℕ)
-      → (front (waits f (periodic f (f .phase) t) (runOf f t)) f (periodic f (f .phase) t) (runOf f t) ≡ front (waits g (periodic g (g .phase) t) (runOf g t)) g (periodic g (g .phase) t) (runOf g t))
-      × (grantsOf (grantOf f (periodic f (f .phase) t) (runOf f t)) (front (waits f (periodic f (f .phase) t) (runOf f t)) f (periodic f (f .phase) t) (runOf f t))
-      ≡ grantsOf (grantOf g (periodic g (g .phase) t) (runOf g t)) (front (waits g (periodic g (g .phase) t) (runOf g t)) g (periodic g (g .phase) t) (runOf g t)))
-  prefix-front t =
-      let r : Releases = periodic f (f .phase) t in
-      let q : Releases = periodic g (g .phase) t in
-      let b = level-on t (prefix-abreast t) in
-      let same = alike-going waits local k f g a r q (runOf f t) (runOf g t) b in (
-        same,
-        grants-among (grantOf f r (runOf f t)) (grantOf g q (runOf g t)) (front (waits f r (runOf f t)) f r (runOf f t))
+            grants-among (grantOf f r (runOf f t)) (grantOf g q (runOf g t)) (frontOf waits k f r (runOf f t))
             (λ i e.
             let (below, busy) = going-below (waits f r (runOf f t)) (unfinished f r (runOf f t)) k i e in
             alike-grant k f g a r q (runOf f t) (runOf g t) b i below busy)
-            ∙ ap (grantsOf (grantOf g q (runOf g t))) same,
-      )
+            ∙ ap (grantsOf (grantOf g q (runOf g t))) same;
+      }

@@ -1,5 +1,5 @@
 -- A FLOW TAKEN OUT: of the flows that are left none needs more than before, by any measure by which no pair costs more and none is carried in
--- longer; their rules pass; and the flows above are as they were. Leans on Monotone, Fair, Moved and Valid. Assumes nothing.
+-- longer. Leans on Monotone, Fair, Moved and Exchange. Assumes nothing.
 use Prim.Native.Nat.{ℕ, zero, suc, _+_, _-_, _*_, _≤_, _<_}
 use mathlib.Core.Path.{_≡_, refl}
 use mathlib.Core.Logic.{⊎-elim}
@@ -22,7 +22,7 @@ use Rattle.trade.proofs.Used.{Full, no-more-facts}
 use Rattle.trade.proofs.Exchange.{Fits, field-before, field-behind, recut-no-more}
 use Rattle.trade.proofs.Moved.{SamePlan, interference-moved, same-disturbs, plan-before, plan-behind}
 
--- WHERE a flow stood: in the same order, and above the place where it stands
+-- WHERE a flow stood: in the same order, above the place where it stands, from there on one place further
 pub out-below : (place i : ℕ) → i < place → beforeOut place i ≡ i
 unfolding beforeOut
 out-below place i l = rw (lt-ltb i place l) refl

@@ -1,29 +1,24 @@
 -- THE RULES where a flow is taken out: what passed codes 3, 5, 6 and 8 passes them still; and the flows above are as they were. Leans on Taken and
 -- Valid. Assumes nothing.
 use Prim.Native.Nat.{ℕ, zero, suc, _+_, _-_, _≤_, _<_}
-use mathlib.Core.Path.{_≡_, refl, sym, _∙_, ap, ap₂}
-use mathlib.Core.Bool.{Bool, true, false, not, _&&_, _||_}
+use mathlib.Core.Path.{_≡_, refl, sym, _∙_, ap}
+use mathlib.Core.Bool.{and-false, Bool, true, false, not, _&&_, _||_}
 use mathlib.Core.Logic.{⊎-elim}
 use native.Mathlib.Omega.{arith}
 use lib.Dec.{eqb, leb}
 use borrow.Author.Tests.{eq-eqb, ne-eqb, not-false}
-use Rattle.trade.specs.Limits.{mostNodes, mostFlows, mostId, mostPhase, mostPeriod, mostSteps}
 use Rattle.trade.specs.First.{some, sumTo}
 use Rattle.trade.specs.Facts.{Facts, firstStep, allSteps, stepOf}
 use Rattle.trade.specs.Interference.{matrix}
 use Rattle.trade.specs.Exchange.{beforeOut}
-use Rattle.trade.specs.Codes.{code3, code5, code6, code8, outside, badRow, badRecord, firstOfPlan, repeats, goesOn, badStep}
+use Rattle.trade.specs.Codes.{code3, code5, code6, code8, badRow, badRecord, firstOfPlan, repeats, goesOn, badStep}
 use Rattle.trade.specs.declared.answer.Answer.{Answer}
-use Rattle.trade.specs.declared.node.Transmission.{Transmission}
-use Rattle.trade.proofs.First.{bool-cases, lt-or-ge, or-false, some-intro, some-none}
+use Rattle.trade.proofs.First.{lt-or-ge, or-false, some-intro, some-none}
 use Rattle.trade.proofs.Sums.{sum-next, sum-le}
 use Rattle.trade.proofs.Answers.{givenFirst-passed, givenFirst-none, givenFirst-same}
 use Rattle.trade.proofs.Valid.{Sound, sound-passes, Valid, code3-passes}
 use Rattle.trade.proofs.Alike.{Alike}
 use Rattle.trade.proofs.Taken.{TakenOut, out-below, out-order, out-most}
-
-and-false : (b : Bool) → (b && false) ≡ false
-and-false b = ⊎-elim (λ (e : b ≡ true). rw e refl) (λ (e : b ≡ false). rw e refl) (bool-cases b)
 
 -- where the same nodes disturb each other, steps that are the same meet alike
 meets-alike : (f g : Facts) → f .disturbs ≡ g .disturbs → (l h i j : ℕ) → stepOf f l i ≡ stepOf g l i → stepOf f h j ≡ stepOf g h j → matrix f l h i j ≡ matrix g l h i j

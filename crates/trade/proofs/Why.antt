@@ -1,7 +1,7 @@
 -- Why a flow is silent: by which of the four, and that a flow that waits has one above it to wait on. Leans on Slot and First. Assumes nothing.
 use Prim.Native.Nat.{ℕ, _≤_, _<_}
-use mathlib.Core.Path.{_≡_, sym, _∙_, ap, ap₂}
-use mathlib.Core.Bool.{Bool, true, false, cond, _&&_, _||_}
+use mathlib.Core.Path.{_≡_, ap, ap₂}
+use mathlib.Core.Bool.{true, false, _&&_, _||_}
 use mathlib.Core.List.{List}
 use mathlib.Core.Logic.{⊎-elim}
 use native.Mathlib.Omega.{arith}
@@ -10,9 +10,8 @@ use Rattle.trade.specs.Facts.{Facts, stepOf}
 use Rattle.trade.specs.Conflict.{conflict}
 use Rattle.trade.specs.Slot.{State, Releases, doneNow, unfinished, nextStep, granted, among}
 use Rattle.trade.specs.Why.{blocks, why}
-use Rattle.trade.specs.declared.told.Told.{Told}
 use Rattle.trade.specs.declared.told.Told.the-variants.{NotReleased, Finished, Granted, WaitingOn}
-use Rattle.trade.proofs.First.{not-both, lt-or-ge, first-within, first-before, first-holds, first-unique, first-cong}
+use Rattle.trade.proofs.First.{not-both, lt-or-ge, first-before, first-holds, first-unique, first-cong}
 use Rattle.trade.proofs.Slot.{left-out-blocked}
 
 module _ (f : Facts) (r : Releases) (s : State) (i : ℕ) where

@@ -82,15 +82,9 @@ acceptedBy f μ = not (some (boundlessBy f μ) (f .flows))
 unfoldable pub code9By : Facts → Measure → Answer
 code9By f μ = givenFirst 9 (boundlessBy f μ) (f .flows)
 
--- by the measure of interference and bounds; adding takes the code, and the proofs of `bounds` and `promise` the others
+-- by the measure of interference and bounds; the proofs take these names
 abbrev pub code9 : Facts → Answer
 code9 f = code9By f (measure f)
 
 abbrev pub bound : Facts → ℕ → ℕ
 bound f l = boundBy f (measure f) l
-
-abbrev pub boundless : Facts → ℕ → Bool
-boundless f l = boundlessBy f (measure f) l
-
-abbrev pub accepted : Facts → Bool
-accepted f = acceptedBy f (measure f)

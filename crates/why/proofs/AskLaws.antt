@@ -1,7 +1,7 @@
 -- ASK: what is told by the rules of the call in their order. Leans on the run's AdvanceLaws. Assumes nothing.
 use Prim.Native.Nat.{ℕ, _≤_, _<_}
 use mathlib.Core.Path.{_≡_, refl, sym, _∙_, ap}
-use mathlib.Core.Bool.{Bool, true, false, cond}
+use mathlib.Core.Bool.{true, false, cond}
 use mathlib.Core.Logic.{⊎-elim}
 use mathlib.Core.List.{List, [], _∷_}
 use lib.Dec.{leb}
@@ -12,16 +12,15 @@ use Rattle.trade.specs.Layout.{sectionsOf}
 use Rattle.trade.specs.Facts.{Facts, factsOf, factsIn, said, stepOf, firstStep}
 use Rattle.trade.specs.Slot.{State, Releases, released, releasesOf, doneNow, unfinished, nextStep, greedy, grantedBy}
 use Rattle.trade.specs.Area.{stateIn}
-use Rattle.trade.specs.Answers.{done, refused, isDone, given, firstOf, noNumber}
+use Rattle.trade.specs.Answers.{refused, isDone, given, firstOf, noNumber}
 use Rattle.trade.specs.Codes.{code13, code15Removing}
 use Rattle.trade.specs.SlotCodes.{badPlace, overrun, code10, code11, code12}
 use Rattle.trade.specs.Calls.{bookRules, readAnswer}
 use Rattle.trade.specs.Why.{blocks, why, Asking, askedDue, askAnswer, askOf}
 use Rattle.trade.specs.declared.answer.Answer.{Answer}
-use Rattle.trade.specs.declared.told.Told.{Told}
 use Rattle.trade.specs.declared.told.Told.the-variants.{Refused}
 use Rattle.trade.proofs.First.{bool-cases}
-use Rattle.trade.proofs.Answers.{done-first, refused-second, firstOf-rule, firstOf-refuse, firstOf-pass, firstOf-on, firstOf-last, given-true, given-false, given-passes}
+use Rattle.trade.proofs.Answers.{refused-second, firstOf-rule, firstOf-refuse, firstOf-pass, firstOf-on, firstOf-last, given-passes}
 use Rattle.area.specs.Refusals.{runAnswer}
 use Rattle.run.specs.Calls.{slotAnswer}
 use Rattle.run.proofs.AdvanceLaws.{too-short, long-enough, refuses, three}

@@ -2,7 +2,7 @@
 -- rules in their order. Leans on the trade's Why, on the slot's ChoiceLaws and on the run's laws. Assumes nothing.
 use Prim.Native.Nat.{ℕ, _-_, _%_, _≤_, _<_}
 use mathlib.Core.Path.{_≡_, refl, sym, _∙_, ap, ap₂}
-use mathlib.Core.Bool.{Bool, true, false, cond, _&&_, _||_}
+use mathlib.Core.Bool.{Bool, true, false, _&&_, _||_}
 use mathlib.Core.List.{List, []}
 use mathlib.Core.Logic.{⊎-elim}
 use native.Mathlib.Nat.{zero-mod}
@@ -29,7 +29,7 @@ use Rattle.trade.proofs.Answers.{done-first, refused-second}
 use Rattle.trade.proofs.Slot.{going-below}
 use Rattle.trade.proofs.Why.{tells-waiting, blocked-above, blocker-is, why-same}
 use Rattle.nodes.specs.Network.{Within}
-use Rattle.plans.specs.Plan.{noStep, planStep}
+use Rattle.plans.specs.Plan.{planStep}
 use Rattle.sections.specs.Formed.{Formed}
 use Rattle.slot.specs.States.{noneDue, stateOf, slotIn}
 use Rattle.slot.specs.Choice.{nextOf, sentAt, Chooses}

@@ -1,5 +1,5 @@
 -- What is told of a flow, by the parts that the code has of it. Leans on the trade's Why, and on the slot's Choice.
-use Prim.Native.Nat.{ℕ, _≤_, _<_}
+use Prim.Native.Nat.{ℕ, _≤_}
 use mathlib.Core.Path.{_≡_}
 use mathlib.Core.Bool.{Bool, true, false, cond}
 use mathlib.Core.List.{List}

@@ -1,6 +1,6 @@
 -- `bounds::kept::bound_with` meets its contract: the three arrays say what the records, the figures and the pairs do. Assumes nothing.
 use borrow.Author.Needs.{needs}
-use Prim.Native.Nat.{ℕ, _+_, _*_, _<_, _≤_}
+use Prim.Native.Nat.{ℕ, _<_, _≤_}
 use mathlib.Core.Path.{_≡_, refl, _∙_, ap, ap₂}
 use mathlib.Core.List.{List, []}
 use denote.Ref.{now}

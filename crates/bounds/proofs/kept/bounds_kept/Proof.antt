@@ -1,5 +1,4 @@
 -- `bounds::kept::bounds_kept` meets its contract: where no flow comes in, the figures are those that stand. Assumes nothing.
-use Prim.Native.Nat.{ℕ}
 use mathlib.Core.Path.{refl, _∙_}
 use mathlib.Core.List.{[]}
 use denote.Ref.{now}

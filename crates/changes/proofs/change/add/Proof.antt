@@ -1,5 +1,4 @@
 -- `changes::change::add` meets its contract: what it lends is a table in memory. Assumes nothing.
-use mathlib.Core.Path.{refl}
 use borrow.Author.Needs.{needs}
 use Rattle.changes.proofs.change.add.Statement.{statement}
 use Rattle.changes.proofs.change.add.Tie as tie

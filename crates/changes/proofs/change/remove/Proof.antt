@@ -1,5 +1,4 @@
 -- `changes::change::remove` meets its contract: what it lends is a table in memory. Assumes nothing.
-use mathlib.Core.Path.{refl}
 use borrow.Author.Needs.{needs}
 use Rattle.changes.proofs.change.remove.Statement.{statement}
 use Rattle.changes.proofs.change.remove.Tie as tie

@@ -2,7 +2,6 @@
 use mathlib.Core.Path.{_≡_, sym, _∙_, ap}
 use denote.Ref.{now}
 use native.Mathlib.Omega.{arith}
-use lib.ListN.{length}
 use Rattle.trade.specs.Kept.{tabled}
 use Rattle.trade.specs.Calls.{Removing, withoutFlow, removeAnswer, removeOf}
 use Rattle.trade.specs.declared.answer.Answer.{Answer}

@@ -6,7 +6,7 @@ use denote.Ref.{now}
 use lib.Dec.{leb}
 use native.Mathlib.Omega.{arith}
 use borrow.Author.Needs.{needs}
-use borrow.Author.Tests.{lt-leb, le-leb, lt-ltb, le-ltb, not-true}
+use borrow.Author.Tests.{lt-leb, le-leb, lt-ltb, le-ltb}
 use Rattle.trade.specs.First.{sumTo}
 use Rattle.trade.specs.Bytes.{bit}
 use Rattle.trade.specs.Layout.{field}

@@ -1,8 +1,6 @@
 -- `why::told::told_in` tests the run that it read, then the place, and tells of the run after its releases. Assumes nothing.
 use mathlib.Core.Path.{_≡_, sym, _∙_, ap}
-use mathlib.Core.List.{[]}
 use denote.Ref.{now}
-use native.Mathlib.Omega.{arith}
 use borrow.Author.Needs.{needs}
 use Rattle.trade.specs.Facts.{Facts, factsIn, factsOf}
 use Rattle.trade.specs.declared.answer.Answer.{Answer}

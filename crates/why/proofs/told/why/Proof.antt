@@ -4,7 +4,6 @@ use denote.Ref.{now}
 use borrow.Author.Needs.{needs}
 use Rattle.trade.specs.Facts.{factsOf, said}
 use Rattle.trade.specs.declared.answer.Answer.{Answer}
-use Rattle.trade.specs.declared.told.Told.the-variants.{Refused}
 use Rattle.book.specs.Frame.{openedOf}
 use Rattle.book.specs.declared.parts.Opened.{Opened}
 use Rattle.book.proofs.OpenBookLaws.{OpenBook, open-book}

@@ -6,7 +6,8 @@ use mathlib.Core.List.{[], _∷_}
 use native.Mathlib.Omega.{arith}
 use Rattle.trade.specs.Bytes.{Bytes}
 use Rattle.trade.specs.Facts.{flowIn}
-use Rattle.trade.specs.Pins.{periodOf7, noMark, noNodes, badDistance, ownBit, noId, longerPlan, jump, tooTight, distances, stepTwo, trailerOfThree, counted, recorded, starts, advances, areaWith, ofOne, formedOfOne, alike, bookOf4, fullTable, oneFigure, keptA, behindA, fullKept, checksKept, meets, blocked, disturbed, releasesAt, due, adds, removes, writes, withSteps, Pins}
+use Rattle.trade.specs.Why.{blocks, why, askAnswer, askOf}
+use Rattle.trade.specs.Pins.{periodOf7, noMark, noNodes, badDistance, ownBit, noId, longerPlan, jump, tooTight, distances, stepTwo, trailerOfThree, counted, recorded, starts, advances, areaWith, ofOne, formedOfOne, alike, bookOf4, fullTable, oneFigure, keptA, behindA, fullKept, checksKept, meets, blocked, disturbed, releasesAt, due, adds, removes, writes, withSteps, bookOf5, areaOf5, told, toldOf, Pins}
 use Rattle.trade.proofs.Cases.{computed}
 
 most-byte : Bytes (0xff ∷ [])
@@ -14,7 +15,7 @@ most-byte zero = omega arith
 most-byte (suc i) = omega arith
 
 pub pins-hold : Pins
-unfolding computed flowIn periodOf7 oneFigure keptA behindA fullKept checksKept noMark noNodes badDistance ownBit noId longerPlan jump tooTight distances stepTwo trailerOfThree counted recorded starts advances areaWith ofOne formedOfOne alike bookOf4 fullTable meets blocked disturbed releasesAt due adds removes writes withSteps
+unfolding computed flowIn periodOf7 oneFigure keptA behindA fullKept checksKept noMark noNodes badDistance ownBit noId longerPlan jump tooTight distances stepTwo trailerOfThree counted recorded starts advances areaWith ofOne formedOfOne alike bookOf4 fullTable meets blocked disturbed releasesAt due adds removes writes withSteps blocks why askAnswer askOf bookOf5 areaOf5 told toldOf
 pins-hold =
     record {
       byte-255 = most-byte;
@@ -123,4 +124,17 @@ pins-hold =
       four-tight = refl;
       four-slot = refl;
       four-late = refl;
+      told-first = refl;
+      told-before = refl;
+      told-released = refl;
+      told-after = refl;
+      told-waiting = refl;
+      told-order-8 = refl;
+      told-order-13 = refl;
+      told-order-10 = refl;
+      told-order-12 = refl;
+      told-order-11 = refl;
+      told-at-m = refl;
+      told-far = refl;
+      told-numbers = refl;
     }

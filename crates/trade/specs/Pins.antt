@@ -1,9 +1,9 @@
 -- Lines of our own, in one table: each shuts out a near miss of a definition that the worked cases leave open. Leans on Cases and all
 -- below it.
-use Prim.Native.Nat.{ℕ, suc, _-_, _*_}
+use Prim.Native.Nat.{ℕ, suc, _-_, _*_, _^_}
 use mathlib.Core.Path.{_≡_}
 use mathlib.Core.Bool.{Bool, true, false}
-use mathlib.Core.List.{List, [], _∷_, _++_}
+use mathlib.Core.List.{List, [], _∷_, _++_, map}
 use lib.ListN.{length, take, drop, set, replicate}
 use Rattle.trade.specs.Limits.{mostFlows, mostSteps, mostPeriod, rowBytes, stepBytes, grantBytes}
 use Rattle.trade.specs.First.{listTo}
@@ -20,9 +20,12 @@ use Rattle.trade.specs.Codes.{code3, code6}
 use Rattle.trade.specs.SlotCodes.{code10}
 use Rattle.trade.specs.Kept.{Tabled, keptByDeadline}
 use Rattle.trade.specs.Calls.{Adding, readOf, checkOf, checkBy, checkKeptOf, checkKeptBy, writeOf, addOf, addBy, removeOf, startOf, advanceOf, recordOf}
+use Rattle.trade.specs.Why.{answerOf, askOf}
 use Rattle.trade.specs.Cases.{bookA, bookB, tableA, deadlineAt, deadlineOf9, lent, slotOf, sends, oneDisturbs, noneDisturbs, checks}
 use Rattle.trade.specs.declared.answer.Answer.{Answer}
 use Rattle.trade.specs.declared.flow.Flow.{Flow}
+use Rattle.trade.specs.declared.told.Told.{Told}
+use Rattle.trade.specs.declared.told.Told.the-variants.{Refused, NotReleased, Finished, Granted, WaitingOn}
 
 -- where the low byte of flow 7's deadline stands in book A
 abbrev pub deadlineOf7 : ℕ
@@ -179,6 +182,20 @@ writes table room = writeOf (record { table = table; buffer = lent room }) .answ
 -- a table with other steps
 unfoldable pub withSteps : Sections → List ℕ → Sections
 withSteps t steps = record { nodes = t .nodes; flows = t .flows; rows = t .rows; records = t .records; steps = steps }
+
+-- five flows of one step, 0-1, 1-2, 2-3, 2-3 and 1-2, of nodes that disturb nobody; and its area before slot 0
+unfoldable pub bookOf5 : List ℕ
+bookOf5 = bookOf (withSteps (alike 4 5 10) (0 ∷ 1 ∷ 1 ∷ 2 ∷ 2 ∷ 3 ∷ 2 ∷ 3 ∷ 1 ∷ 2 ∷ []))
+
+unfoldable pub areaOf5 : List ℕ
+areaOf5 = replicate 4 0 ++ (replicate 5 1 ++ replicate 27 0)
+
+-- what is told of a place, and of the first few
+unfoldable pub told : List ℕ → List ℕ → ℕ → Told
+told book area place = askOf (record { book = book; area = area; place = place })
+
+unfoldable pub toldOf : ℕ → List ℕ → List ℕ → List Told
+toldOf count book area = map (told book area) (listTo (λ i. i) count)
 
 pub record Pins : Type 0 where
   -- THE BOOK. 255 is a byte; in row 1, node 17 is bit 1 of byte 2; a record's five fields; a table has room for 64 rows of 8 bytes, 32
@@ -373,3 +390,23 @@ pub record Pins : Type 0 where
         grants = 0 ∷ 4 ∷ 0 ∷ 0 ∷ 0 ∷ 0 ∷ 0 ∷ 2 ∷ 1 ∷ lent 27;
       }
   pub four-late : advanceOf (record { book = bookOf4; area = 0 ∷ 0 ∷ 0 ∷ 10 ∷ 1 ∷ 1 ∷ 1 ∷ 0 ∷ replicate 28 0; grants = lent 36 }) .answer ≡ refused 11 3
+  -- WHY A FLOW IS SILENT. In slot 0 of book B flow 1 goes, since a first release may go in that very slot; flow 2 waits on it; flow 3 is not
+  -- released, though its byte is its L. In slot 5 flow 1 is finished, flow 2 goes, and flow 3, whose first release this is, waits on it
+  pub told-first : toldOf 3 bookB (areaWith 0 5 1 5) ≡ Granted ∷ WaitingOn 0 ∷ NotReleased ∷ []
+  pub told-before : toldOf 3 bookB (areaWith 4 4 0 5) ≡ Granted ∷ WaitingOn 0 ∷ NotReleased ∷ []
+  pub told-released : toldOf 3 bookB (areaWith 5 5 0 5) ≡ Finished ∷ Granted ∷ WaitingOn 1 ∷ []
+  pub told-after : toldOf 3 bookB (areaWith 6 5 1 0) ≡ Finished ∷ Finished ∷ Granted ∷ []
+  -- of five flows the first and the third go; the fourth conflicts with the second too, which itself waits, and the last with both that go
+  pub told-waiting : toldOf 5 bookOf5 areaOf5 ≡ Granted ∷ WaitingOn 0 ∷ Granted ∷ WaitingOn 2 ∷ WaitingOn 0 ∷ []
+  -- refused in the order of advance, then 15: a place at m, and the largest that code can hand over
+  pub told-order-8 : told (jump bookA) [] 9 ≡ Refused (refused 8 2)
+  pub told-order-13 : told bookA (take 35 (areaWith 4000000001 9 9 9)) 9 ≡ Refused (refused 13 0)
+  pub told-order-10 : told bookA (areaWith 4000000000 3 3 1) 9 ≡ Refused (refused 10 2)
+  pub told-order-12 : told bookA (areaWith 4000000000 1 1 0) 9 ≡ Refused (refused 12 0)
+  pub told-order-11 : told bookA (areaWith 60 3 2 0) 9 ≡ Refused (refused 11 1)
+  pub told-at-m : told bookA (areaWith 2 2 2 0) 1 ∷ told bookA (areaWith 2 2 2 0) 2 ∷ [] ≡ WaitingOn 0 ∷ Refused (refused 15 0) ∷ []
+  pub told-far : told bookA (areaWith 2 2 2 0) (2 ^ 64 - 1) ≡ Refused (refused 15 0)
+  -- each in one answer
+  pub told-numbers :
+      map answerOf (Refused (refused 11 1) ∷ NotReleased ∷ Finished ∷ Granted ∷ WaitingOn 0 ∷ WaitingOn 31 ∷ [])
+      ≡ refused 11 1 ∷ done 0 ∷ done 256 ∷ done 512 ∷ done 768 ∷ done 799 ∷ []

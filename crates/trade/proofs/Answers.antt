@@ -3,7 +3,7 @@
 use Prim.Native.Nat.{ℕ, suc, _<_}
 use mathlib.Core.Path.{_≡_, refl, ap, sym, _∙_}
 use mathlib.Core.Bool.{Bool, true, false, cond}
-use mathlib.Core.List.{List, [], _∷_, _++_}
+use mathlib.Core.List.{List, [], _∷_, _++_, append-nil}
 use mathlib.Core.Logic.{_⊎_, inl, inr, ⊎-elim}
 use lib.Dec.{eqb}
 use borrow.Author.Tests.{eqb-true, eqb-false, eq-eqb, ne-eqb}
@@ -205,6 +205,21 @@ pub append-passed :
     → firstOf rules noNumber x .code ≡ 0
     → firstOf (rules ++ more) number x ≡ firstOf more number x
 append-passed rules more number x e = firstOf-append rules more number x ∙ done-first (firstOf rules noNumber x) _ _ e
+
+-- a call's number counts only where all its rules pass
+pub firstOf-number :
+    {A : Type 0} (rules : List (A → Answer)) (number : A → ℕ) (x : A)
+    → firstOf rules number x ≡ cond (isDone (firstOf rules noNumber x)) (done (number x)) (firstOf rules noNumber x)
+unfolding firstOf
+firstOf-number rules number x = ap (λ (all : List (_ → Answer)). firstOf all number x) (sym (append-nil rules)) ∙ firstOf-append rules [] number x
+
+-- a rule that passes may be left out
+pub firstOf-without :
+    {A : Type 0} (rules : List (A → Answer)) (rule : A → Answer) (more : List (A → Answer)) (number : A → ℕ) (x : A)
+    → rule x .code ≡ 0
+    → firstOf (rules ++ (rule ∷ more)) number x ≡ firstOf (rules ++ more) number x
+firstOf-without rules rule more number x e =
+    firstOf-append rules (rule ∷ more) number x ∙ rw (firstOf-pass rule more number x e) (sym (firstOf-append rules more number x))
 
 -- rules on a part of what is handed answer as they do by themselves
 pub firstOf-look :

@@ -9,6 +9,7 @@ pub mod Slot
 pub mod Why
 pub mod Order
 pub mod Answers
+pub mod SlotCodes
 pub mod Valid
 pub mod Alike
 pub mod Fair

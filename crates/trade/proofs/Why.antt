@@ -1,18 +1,37 @@
--- Why a flow is silent: by which of the four, and that a flow that waits has one above it to wait on. Leans on Slot and First. Assumes nothing.
-use Prim.Native.Nat.{ℕ, _≤_, _<_}
-use mathlib.Core.Path.{_≡_, ap, ap₂}
+-- Why a flow is silent: when its first release has come, by which of the four, and that a flow that waits has one above it to wait on. Leans
+-- on Slot and First. Assumes nothing.
+use Prim.Native.Nat.{ℕ, _-_, _%_, _≤_, _<_}
+use mathlib.Core.Path.{_≡_, refl, ap, ap₂}
 use mathlib.Core.Bool.{true, false, _&&_, _||_}
 use mathlib.Core.List.{List}
 use mathlib.Core.Logic.{⊎-elim}
+use native.Mathlib.Nat.{zero-mod}
 use native.Mathlib.Omega.{arith}
+use lib.Dec.{eqb, leb}
+use borrow.Author.Tests.{lt-ltb, le-ltb, lt-leb, le-leb}
 use Rattle.trade.specs.First.{first}
 use Rattle.trade.specs.Facts.{Facts, stepOf}
 use Rattle.trade.specs.Conflict.{conflict}
-use Rattle.trade.specs.Slot.{State, Releases, doneNow, unfinished, nextStep, granted, among}
+use Rattle.trade.specs.Slot.{State, Releases, released, periodic, doneNow, unfinished, nextStep, granted, among}
 use Rattle.trade.specs.Why.{blocks, why}
 use Rattle.trade.specs.declared.told.Told.the-variants.{NotReleased, Finished, Granted, WaitingOn}
-use Rattle.trade.proofs.First.{not-both, lt-or-ge, first-before, first-holds, first-unique, first-cong}
+use Rattle.trade.proofs.First.{not-both, or-right, lt-or-ge, first-before, first-holds, first-unique, first-cong}
 use Rattle.trade.proofs.Slot.{left-out-blocked}
+
+-- a flow's first release has come if it is due in the slot or came before it
+pub begun-is :
+    (f : Facts) (firsts : ℕ → ℕ) (slot i : ℕ) → (periodic f firsts slot .due i || periodic f firsts slot .begun i) ≡ leb (firsts i) slot
+unfolding released
+begun-is f firsts slot i =
+    let first : ℕ = firsts i in
+    ⊎-elim (λ (l : first < slot). rw (lt-ltb first slot l, le-leb first slot (omega arith)) (or-right (eqb ((slot - first) % f .period i) 0) true refl))
+    (λ (l : slot ≤ first).
+    ⊎-elim (λ (m : slot < first). rw (lt-leb first slot m, le-ltb first slot l) refl)
+    (λ (m : first ≤ slot).
+    let none : slot - first ≡ 0 = omega arith in
+    rw (le-leb first slot m, le-ltb first slot l, none, zero-mod (f .period i)) refl)
+    (lt-or-ge slot first))
+    (lt-or-ge first slot)
 
 module _ (f : Facts) (r : Releases) (s : State) (i : ℕ) where
   pub tells-unreleased : (r .due i || r .begun i) ≡ false → why f r s i ≡ NotReleased

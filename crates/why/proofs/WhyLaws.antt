@@ -1,21 +1,20 @@
 -- What is told of a flow, by the parts that the code has of it: the flows that go and what they send; the run that was read from an area; and the
 -- rules in their order. Leans on the trade's Why, on the slot's ChoiceLaws and on the run's laws. Assumes nothing.
-use Prim.Native.Nat.{ℕ, _-_, _%_, _≤_, _<_}
+use Prim.Native.Nat.{ℕ, _≤_, _<_}
 use mathlib.Core.Path.{_≡_, refl, sym, _∙_, ap, ap₂}
-use mathlib.Core.Bool.{Bool, true, false, _&&_, _||_}
+use mathlib.Core.Bool.{true, false, _&&_, _||_}
 use mathlib.Core.List.{List, []}
 use mathlib.Core.Logic.{⊎-elim}
-use native.Mathlib.Nat.{zero-mod}
 use native.Mathlib.Omega.{arith}
-use borrow.Author.Tests.{lt-ltb, le-ltb, lt-leb, le-leb, ltb-true}
-use lib.Dec.{eqb, leb, ltb}
+use borrow.Author.Tests.{lt-ltb, lt-leb, le-leb, ltb-true}
+use lib.Dec.{leb}
 use Rattle.trade.specs.Limits.{mostFlows}
 use Rattle.trade.specs.First.{first, sumTo}
 use Rattle.trade.specs.Bytes.{bit}
 use Rattle.trade.specs.Layout.{field}
 use Rattle.trade.specs.Facts.{Facts, factsIn, factsOf, firstStep, disturbsIn}
 use Rattle.trade.specs.Conflict.{conflict}
-use Rattle.trade.specs.Slot.{State, released, releasesOf, doneNow, unfinished, nextStep, greedy, grantedBy, granted, among}
+use Rattle.trade.specs.Slot.{State, releasesOf, doneNow, unfinished, nextStep, greedy, grantedBy, granted, among}
 use Rattle.trade.specs.Answers.{refused}
 use Rattle.trade.specs.Area.{stateIn}
 use Rattle.trade.specs.Why.{blocks, why}
@@ -24,10 +23,10 @@ use Rattle.trade.specs.declared.answer.Answer.{Answer}
 use Rattle.trade.specs.declared.clock.Slot.{Slot}
 use Rattle.trade.specs.declared.state.Run.{Run}
 use Rattle.trade.specs.declared.told.Told.the-variants.{Refused, WaitingOn}
-use Rattle.trade.proofs.First.{bool-cases, lt-or-ge, first-cong}
+use Rattle.trade.proofs.First.{bool-cases, first-cong}
 use Rattle.trade.proofs.Answers.{done-first, refused-second}
 use Rattle.trade.proofs.Slot.{going-below}
-use Rattle.trade.proofs.Why.{tells-waiting, blocked-above, blocker-is, why-same}
+use Rattle.trade.proofs.Why.{begun-is, tells-waiting, blocked-above, blocker-is, why-same}
 use Rattle.nodes.specs.Network.{Within}
 use Rattle.plans.specs.Plan.{planStep}
 use Rattle.sections.specs.Formed.{Formed}
@@ -115,18 +114,6 @@ module _ (flows : ℕ) (rows records steps : List ℕ) (formed : Formed flows ro
             ∙ ap WaitingOn (blocker-is facts (begunBy true) state place in-flows open-still left-out ∙ sym same-first)
 
 -- IN THE RUN that an area holds: it has begun if its first release has come, and what is told of the run after its releases is told of it
-begun-by : (first period slot : ℕ) → (leb first slot && eqb ((slot - first) % period) 0 || ltb first slot) ≡ leb first slot
-begun-by first period slot =
-    ⊎-elim (λ (l : first < slot). rw (lt-ltb first slot l, le-leb first slot (omega arith)) (or-true (eqb ((slot - first) % period) 0)))
-    (λ (l : slot ≤ first).
-    ⊎-elim (λ (m : slot < first). rw (lt-leb first slot m, le-ltb first slot l) refl)
-    (λ (m : first ≤ slot). let none : slot - first ≡ 0 = omega arith in rw (le-leb first slot m, le-ltb first slot l, none, zero-mod period) refl)
-    (lt-or-ge slot first))
-    (lt-or-ge first slot)
-  where
-    or-true : (b : Bool) → (b || true) ≡ true
-    or-true b = ⊎-elim (λ (e : b ≡ true). rw e refl) (λ (e : b ≡ false). rw e refl) (bool-cases b)
-
 module _
     (flows : ℕ) (rows records steps area : List ℕ) (few : flows ≤ mostFlows) (run : Run) (held : HeldIn area run) (after : Run)
     (made : AfterReleases (factsIn 0 flows [] records []) run after) (firsts : List Slot) (phases : FirstReleases (factsIn 0 flows [] records []) firsts)
@@ -136,10 +123,10 @@ module _
     all = factsIn 0 flows rows records steps
 
     first-come : leb (slotIn firsts place) (after .slot .0) ≡ (releasesOf all (stateIn area) .due place || releasesOf all (stateIn area) .begun place)
-    unfolding released factsOf
+    unfolding factsOf
     first-come =
         ap₂ leb (phases .phases place there) (made .slot ∙ held .slot)
-        ∙ sym (begun-by (field records place 1) (field records place 2) (stateIn area .slot))
+        ∙ sym (begun-is all (all .phase) (stateIn area .slot) place)
 
     pub told-is :
         why all (begunBy (leb (slotIn firsts place) (after .slot .0))) (stateOf after) place

@@ -1,16 +1,19 @@
--- Grants are read back from their nine bytes. Leans on Bytes. Assumes nothing.
-use Prim.Native.Nat.{ℕ, zero, suc, _+_, _*_, _^_, _<_}
+-- Grants are read back from their nine bytes; those of a slot are the next steps of the flows that go. Leans on Bytes. Assumes nothing.
+use Prim.Native.Nat.{ℕ, zero, suc, _+_, _-_, _*_, _^_, _<_}
 use mathlib.Core.Path.{_≡_, refl, _∙_}
 use mathlib.Core.List.{List, [], _∷_, _++_, append-assoc}
 use native.Mathlib.Omega.{arith}
-use native.Mathlib.Nat.{add-assoc}
+use native.Mathlib.Nat.{add-assoc, div-le-self}
 use lib.ListN.{length, getD, List·getD-append}
-use Rattle.trade.specs.Limits.{grantBytes}
+use Rattle.trade.specs.Limits.{grantBytes, endOfClock}
 use Rattle.trade.specs.Bytes.{twoBytes, fourBytes}
 use Rattle.trade.specs.Facts.{Facts}
-use Rattle.trade.specs.Slot.{State, Releases, doneNow, nextStep, grantOf, grantsOf}
+use Rattle.trade.specs.Slot.{State, Releases, instanceAt, periodic, doneNow, nextStep, Waits, grantedBy, grantOf, grantsOf}
 use Rattle.promise.specs.Demands.{grantAt, stepGrant}
 use Rattle.trade.proofs.Bytes.{word-front, long-front, byte-behind, word-behind, long-behind, word-twoBytes, long-fourBytes}
+use Rattle.trade.proofs.Order.{among-at}
+use Rattle.trade.proofs.Valid.{Valid}
+use Rattle.response.proofs.Granted.{granted-below}
 
 -- the first of several grants, and those behind it
 pub grant-front : (a b : List ℕ) → length a ≡ grantBytes → grantAt (a ++ b) 0 ≡ grantAt a 0
@@ -76,3 +79,26 @@ module _ (f : Facts) (r : Releases) (s : State) (i : ℕ) where
         step = record { 0 = doneNow r s i };
         transmission = nextStep f r s i;
       }
+
+-- the number of an instance at any slot of the clock fits its four bytes
+instance-fits : (f : Facts) (t l : ℕ) → t < endOfClock → instanceAt f (f .phase) t l < 2 ^ 32
+unfolding instanceAt
+instance-fits f t l clock = omega (arith, div-le-self (t - f .phase l) (f .period l))
+
+-- A SLOT of the clock, of valid facts: grant j of those that are made in it is the next step of the j-th flow that goes
+module _ (waits : Waits) (f : Facts) (v : Valid f) (t : ℕ) (clock : t < endOfClock) (s : State) where
+  abbrev due : Releases
+  due = periodic f (f .phase) t
+
+  abbrev goes : List ℕ
+  goes = grantedBy waits f due s
+
+  pub slot-grant :
+      (rest : List ℕ) (j : ℕ)
+      → j < length goes
+      → grantAt (grantsOf (grantOf f due s) goes ++ rest) j
+      ≡ stepGrant f (getD goes j 0) (record { 0 = due .instance (getD goes j 0) }) (record { 0 = doneNow due s (getD goes j 0) })
+  slot-grant rest j h =
+      let i : ℕ = getD goes j 0 in
+      grant-at (grantOf f due s) (length-grant f due s) goes rest j h
+      ∙ grant-says f due s i (omega (arith, v .records i (granted-below waits f due s i (among-at goes j h)) .id .most)) (instance-fits f t i clock)

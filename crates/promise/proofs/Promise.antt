@@ -1,11 +1,10 @@
 -- Demand 3, of the program that the definitions describe by any sound measure and rule of waiting, and so of every program that meets its
 -- contracts. Assumes nothing.
-use Prim.Native.Nat.{ℕ, suc, _-_, _^_, _≤_, _<_}
+use Prim.Native.Nat.{ℕ, suc, _≤_, _<_}
 use mathlib.Core.Path.{_≡_, refl, sym, _∙_, ap, subst}
 use mathlib.Core.Bool.{false}
 use mathlib.Core.Logic.{⊎-elim}
 use native.Mathlib.Omega.{arith}
-use native.Mathlib.Nat.{div-le-self}
 use lib.ListN.{length, getD}
 use Rattle.trade.specs.Limits.{endOfClock}
 use Rattle.trade.specs.Bytes.{over}
@@ -13,7 +12,7 @@ use Rattle.trade.specs.Facts.{Facts}
 use Rattle.trade.specs.Answers.{done}
 use Rattle.trade.specs.Conflict.{conflict}
 use Rattle.trade.specs.Bound.{Measure, measure, boundBy}
-use Rattle.trade.specs.Slot.{instanceAt, doneNow, nextStep, Waits, greedy, grantOf}
+use Rattle.trade.specs.Slot.{instanceAt, doneNow, nextStep, Waits, greedy}
 use Rattle.trade.specs.Calls.{Checked, Started, Advanced, checkBy}
 use Rattle.trade.specs.declared.answer.Answer.{Answer}
 use Rattle.trade.specs.declared.clock.Slot.{Slot}
@@ -31,7 +30,7 @@ use Rattle.response.proofs.Promise.{kept}
 use Rattle.response.proofs.Waiting.{bound-positive}
 use Rattle.promise.specs.Demands.{Program, Ran, RunBy, HasRun, plannerBy, planner, grantAt, grant, stepGrant, Counted, Granted, releaseOf, lastSlot, reported, Kept, Due, Honoured, Demand3}
 use Rattle.promise.specs.Promise.{Meets}
-use Rattle.promise.proofs.Grants.{length-grant, grant-at, grant-says}
+use Rattle.promise.proofs.Grants.{slot-grant}
 use Rattle.promise.proofs.Sound.{Sound, greedy-sound}
 use Rattle.promise.proofs.Accepted.{accepted-valid, accepted-admissible, accepted-bounded, reported-bound}
 use Rattle.promise.proofs.Slots.{AcceptedRun, facts, due, run, goes, made, areaAt, at, started, in-slot, past-clock}
@@ -46,11 +45,6 @@ instanceOf waits x t j = record { 0 = due x t .instance (flowAt waits x t j) }
 
 abbrev nextOf : Waits → Ran → ℕ → ℕ → Step
 nextOf waits x t j = record { 0 = doneNow (due x t) (run waits x t) (flowAt waits x t j) }
-
--- the number of an instance at any slot of the clock fits its four bytes
-instance-fits : (f : Facts) (t l : ℕ) → t < endOfClock → instanceAt f (f .phase) t l < 2 ^ 32
-unfolding instanceAt
-instance-fits f t l clock = omega (arith, div-le-self (t - f .phase l) (f .period l))
 
 module _ (measured : Facts → Measure) (waits : Waits) (x : Ran) (g : AcceptedRun measured waits x) where
   valid : Valid (facts x)
@@ -103,12 +97,8 @@ module _ (measured : Facts → Measure) (waits : Waits) (x : Ran) (g : AcceptedR
         → grant x t j ≡ stepGrant (facts x) (flowAt waits x (t .0) j) (instanceOf waits x (t .0) j) (nextOf waits x (t .0) j)
     unfolding over
     grant-is j h =
-        let i : ℕ = flowAt waits x (t .0) j in
         ap (λ (a : Advanced). grantAt (a .grants) j) leaves
-        ∙ grant-at (grantOf (facts x) (due x (t .0)) (run waits x (t .0))) (length-grant (facts x) (due x (t .0)) (run waits x (t .0))) (goes waits x (t .0)) _ j h
-        ∙ grant-says (facts x) (due x (t .0)) (run waits x (t .0)) i
-        (omega (arith, valid .records i (goes-listed j h) .id .most))
-        (instance-fits (facts x) (t .0) i (run-clock t has))
+        ∙ slot-grant waits (facts x) valid (t .0) (run-clock t has) (run waits x (t .0)) _ j h
 
     -- a step that the run grants is granted
     run-granted : (l v s : ℕ) → RunGranted waits (facts x) (due x) l v s (t .0) → Granted x l (record { 0 = v }) (record { 0 = s }) t

@@ -11,8 +11,10 @@ pub mod Exact
 pub mod Grants
 pub mod Slots
 pub mod Promise
--- One table, one book; the fair count; the empty programs
+-- One table, one book; the fair count; a flow taken out; why a flow is silent; the empty programs
 pub mod Tables
 pub mod Fair
 pub mod Removal
+pub mod Asked
+pub mod Why
 pub mod Empty

@@ -70,7 +70,7 @@ abbrev pub at : ℕ → Slot
 at t = record { 0 = t }
 
 -- the rules of an advance: those before code 12, and those from it on
-abbrev ruleOf : (Facts → Releases → State → Answer) → Advancing → Answer
+abbrev pub ruleOf : (Facts → Releases → State → Answer) → Advancing → Answer
 ruleOf code a = code (said (a .book)) (releasesOf (said (a .book)) (stateIn (a .area))) (stateIn (a .area))
 
 beforeClock : List (Advancing → Answer)

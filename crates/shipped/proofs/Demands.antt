@@ -3,14 +3,16 @@ use Rattle.promise.specs.Demands.{Demand1, Demand2, Demand3}
 use Rattle.promise.specs.Tables.{AddedRuns}
 use Rattle.promise.specs.Fair.{NoWorse}
 use Rattle.promise.specs.Removal.{NeverHurts}
+use Rattle.promise.specs.Why.{TellsWhy}
 use Rattle.promise.proofs.Refusals.{keeps-demand-1}
 use Rattle.promise.proofs.Exact.{keeps-demand-2}
 use Rattle.promise.proofs.Promise.{keeps-demand-3}
 use Rattle.promise.proofs.Tables.{one-table-one-book}
 use Rattle.promise.proofs.Fair.{no-worse}
 use Rattle.promise.proofs.Removal.{never-hurts}
-use Rattle.shipped.specs.Calls.{shipped, forC}
-use Rattle.shipped.proofs.Meets.{shipped-meets, for-c-meets}
+use Rattle.promise.proofs.Why.{tells-why}
+use Rattle.shipped.specs.Calls.{Advance, Why, shipped, forC}
+use Rattle.shipped.proofs.Meets.{advance-planned, why-planned, shipped-meets, for-c-meets}
 
 pub shipped-demand-1 : Demand1 shipped
 shipped-demand-1 = keeps-demand-1 shipped shipped-meets
@@ -50,3 +52,7 @@ shipped-never-hurts = never-hurts shipped shipped-meets
 
 pub for-c-never-hurts : NeverHurts forC
 for-c-never-hurts = never-hurts forC for-c-meets
+
+-- WHY A FLOW IS SILENT in a slot, or that it is not
+pub shipped-tells-why : TellsWhy Advance Why
+shipped-tells-why = tells-why advance-planned why-planned

@@ -8,9 +8,11 @@ use Rattle.trade.specs.Layout.{Sections}
 use Rattle.trade.specs.Kept.{Tabled}
 use Rattle.trade.specs.Answers.{packedOf}
 use Rattle.trade.specs.Calls.{Checked, Started, Advanced, Writing, Adding, Removing, Starting, Advancing, readOf, checkOf, checkKeptOf, writeOf, addOf, removeOf, startOf, advanceOf}
+use Rattle.trade.specs.Why.{Asking, askOf}
+use Rattle.trade.specs.declared.told.Told.{Told}
 use Rattle.table.specs.declared.table.Table.{Table}
 use Rattle.promise.specs.Demands.{Answers}
-use Rattle.shipped.specs.Calls.{Read, Check, CheckTable, Write, Add, Remove, Start, Advance, SlotCheck, shipped, forC, withRun}
+use Rattle.shipped.specs.Calls.{Read, Check, CheckTable, Write, Add, Remove, Start, Advance, Why, SlotCheck, shipped, forC, withRun}
 
 -- a list that is lent, and a table of counts and sections
 lent : List ℕ → RefT (List ℕ)
@@ -66,6 +68,11 @@ module _ (κ : Lft) where
   advance-given i =
       ((κ, (κ, (κ, tt))), (lent (i .book), (lent (i .area), (lent (i .grants), tt))), advanceOf i .answer, (lent (i .book), (lent (advanceOf i .area), (lent (advanceOf i .grants), tt))), record { answer = refl; area = refl; grants = refl }, refl, refl)
 
+  why-given : (i : Asking) → Why i (askOf i)
+  unfolding lent
+  why-given i =
+      ((κ, (κ, tt)), (lent (i .book), (lent (i .area), (i .place, tt))), (lent (i .book), (lent (i .area), (i .place, tt))), refl, refl)
+
   -- of the calls for C, the numbers
   slot-check-given : (b : List ℕ) → SlotCheck b (packedOf (checkOf b .answer))
   unfolding lent
@@ -91,6 +98,9 @@ module _ (κ : Lft) where
 
   pub shipped-answers : Answers shipped
   shipped-answers = answers-with (λ b. (checkOf b, check-given b)) (λ s. (startOf s, start-given s)) (λ a. (advanceOf a, advance-given a))
+
+  pub shipped-answers-why : (i : Asking) → (given : Told) × Why i given
+  shipped-answers-why i = (askOf i, why-given i)
 
   pub for-c-answers : Answers forC
   unfolding lent

@@ -8,11 +8,13 @@ use Rattle.trade.specs.Answers.{packedOf}
 use Rattle.trade.specs.Bound.{measure}
 use Rattle.trade.specs.Slot.{greedy, releasesOf}
 use Rattle.trade.specs.Calls.{Checked, Starting, Started, Advancing, Advanced, readOf, checkOf, checkBy, checkKeptOf, writeOf, addOf, removeOf, startOf, startBy, advanceOf, advanceBy}
+use Rattle.trade.specs.Why.{askOf}
 use Rattle.trade.specs.declared.answer.Answer.{Answer}
 use Rattle.trade.proofs.Numbers.{check-number, start-number, advance-number}
 use Rattle.promise.specs.Demands.{Always, planner}
 use Rattle.promise.specs.Promise.{Meets}
-use Rattle.shipped.specs.Calls.{Read, Check, CheckTable, Write, Add, Remove, Start, Advance, shipped, unpacked, SlotStart, SlotAdvance, forC, withRun, CheckedInC}
+use Rattle.promise.specs.Why.{asks}
+use Rattle.shipped.specs.Calls.{Read, Check, CheckTable, Write, Add, Remove, Start, Advance, Why, shipped, unpacked, SlotStart, SlotAdvance, forC, withRun, CheckedInC}
 
 -- THE EIGHT CALLS
 pub read-planned : Always Read (planner .read)
@@ -39,6 +41,10 @@ start-planned w given (κs, a, r, s, p, i, o) = o ∙ (λ t. record { answer = p
 pub advance-planned : Always Advance (planner .advance)
 advance-planned w given (κs, a, r, s, p, i, o) =
     o ∙ (λ t. record { answer = p .answer t; area = p .area t; grants = p .grants t }) ∙ ap advanceOf (sym i)
+
+-- THE CALL THAT TELLS WHY
+pub why-planned : Always Why asks
+why-planned w given (κs, a, s, p, i) = p ∙ ap askOf (sym i)
 
 -- the calls on tables meet their contracts, so those with a check, a start and an advance that do
 meets-with :

@@ -7,7 +7,9 @@ use mathlib.Core.List.{List}
 use denote.Ref.{now}
 use Rattle.trade.specs.Limits.{packing}
 use Rattle.trade.specs.Calls.{Got, Checked, Writing, Written, Adding, Removing, Changed, Starting, Started, Advancing, Advanced, checkOf}
+use Rattle.trade.specs.Why.{Asking}
 use Rattle.trade.specs.declared.answer.Answer.{Answer}
+use Rattle.trade.specs.declared.told.Told.{Told}
 use Rattle.trade.specs.Kept.{Tabled}
 use Rattle.table.specs.Table.{sectionsIn, keptIn}
 use Rattle.promise.specs.Demands.{Program}
@@ -19,6 +21,7 @@ use Rattle.changes.proofs.change.add.Reads as add
 use Rattle.changes.proofs.change.remove.Reads as remove
 use Rattle.run.proofs.start.start.Reads as start
 use Rattle.run.proofs.advance.advance.Reads as advance
+use Rattle.why.proofs.told.why.Reads as why
 use Rattle.radio.proofs.slot_check.Reads as slot-check
 use Rattle.radio.proofs.slot_start.Reads as slot-start
 use Rattle.radio.proofs.slot_advance.Reads as slot-advance
@@ -87,6 +90,13 @@ withRun check start advance = record { read = Read; check = check; checkTable = 
 -- THE PROGRAM that ships
 abbrev pub shipped : Program
 shipped = withRun Check Start Advance
+
+-- THE CALL THAT TELLS WHY, beside them
+abbrev pub Why : Asking → Told → Type 0
+Why i given =
+    (κs : _) × (a : _) × (s : _)
+    × why.Post κs a given s
+    × (i ≡ record { book = now (a .0); area = now (a .1 .0); place = a .1 .1 .0 })
 
 -- THE THREE CALLS FOR C answer one number: code × 65,536 + the number that goes with it
 abbrev pub unpacked : ℕ → Answer

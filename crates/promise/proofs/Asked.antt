@@ -29,7 +29,7 @@ use Rattle.trade.proofs.SlotCodes.{slot-in-clock, done-within, idle-before}
 use Rattle.trade.proofs.Why.{begun-is, tells-unreleased, tells-finished, tells-granted, tells-waiting}
 use Rattle.response.proofs.Cases.{by-test, by-order}
 use Rattle.promise.specs.Demands.{Done, Refused}
-use Rattle.promise.specs.Why.{slotAsked, stepsHad, Released, Unfinished, OneOfFour}
+use Rattle.promise.specs.Why.{slotAsked, stepsHad, Released, Unfinished, OneOfFour, toldBy}
 use Rattle.promise.proofs.Slots.{ruleOf}
 
 -- THE RULES of advance: those before its room for grants, that one, and those of the run
@@ -241,17 +241,6 @@ refused-told a r = (
 )
 
 -- what is told is read back from its answer
-abbrev numberOf : Told → ℕ
-numberOf told = answerOf told .number
-
-pub toldBy : Answer → Told
-toldBy r =
-    cond (isDone r)
-    (cond (eqb (r .number) (numberOf Told.NotReleased)) Told.NotReleased
-    (cond (eqb (r .number) (numberOf Told.Finished)) Told.Finished
-    (cond (eqb (r .number) (numberOf Told.Granted)) Told.Granted (Told.WaitingOn (r .number - numberOf (Told.WaitingOn 0))))))
-    (Told.Refused r)
-
 pub read-back : {a : Asking} {told : Told} → Tells a told → toldBy (answerOf told) ≡ told
 unfolding isDone toldBy
 read-back (tells-refusal r n e) = rw (ne-eqb (r .code) 0 n)
@@ -259,11 +248,11 @@ read-back (tells-early e early) = refl
 read-back (tells-had e come all) = refl
 read-back (tells-goes e g) = refl
 read-back (tells-waits h e come busy g is) =
-    let n : ℕ = numberOf (Told.WaitingOn h) in
-    let rest : n - numberOf (Told.WaitingOn 0) ≡ h = omega arith in
+    let n : ℕ = answerOf (Told.WaitingOn h) .number in
+    let rest : n - answerOf (Told.WaitingOn 0) .number ≡ h = omega arith in
     rw (
-      ne-eqb n (numberOf Told.NotReleased) (λ z. omega arith),
-      ne-eqb n (numberOf Told.Finished) (λ z. omega arith),
-      ne-eqb n (numberOf Told.Granted) (λ z. omega arith),
+      ne-eqb n (answerOf Told.NotReleased .number) (λ z. omega arith),
+      ne-eqb n (answerOf Told.Finished .number) (λ z. omega arith),
+      ne-eqb n (answerOf Told.Granted .number) (λ z. omega arith),
     )
     (ap Told.WaitingOn rest)

@@ -33,7 +33,7 @@ use Rattle.promise.specs.Why.{asks, slotAsked, nextGrant, Released, Unfi
 use Rattle.promise.proofs.Meets.{by-definition, by-meeting}
 use Rattle.promise.proofs.Exact.{planner-keeps-demand-2}
 use Rattle.promise.proofs.Grants.{slot-grant}
-use Rattle.promise.proofs.Asked.{handed, placeRule, ask-refused, ask-place, advance-done, facts, run, goes, Runs, runs, ask-listed, told-early, told-had, works, told-goes, told-waits, Tells, tells-waits, tells, by-early, by-had, by-goes, told-done, refused-told, toldBy, read-back}
+use Rattle.promise.proofs.Asked.{handed, placeRule, ask-refused, ask-place, advance-done, facts, run, goes, Runs, runs, ask-listed, told-early, told-had, works, told-goes, told-waits, Tells, tells-waits, tells, by-early, by-had, by-goes, told-done, refused-told, read-back}
 
 -- what is asked about, and the advance of its slot
 module _ (a : Asking) (advanced : Advanced) (same : SameSlot (planner .advance) a advanced) where
@@ -224,7 +224,7 @@ planner-tells-why =
       waiting = by-definition askOf _ by-blocker;
       named = by-definition askOf _ one-named;
       next = by-definition askOf _ (λ a advanced same i j g. granted-goes a advanced same i j g .1);
-      apart = by-definition askOf _ (λ a. by-definition askOf _ (λ b e. sym (read-back (tells a)) ∙ ap toldBy e ∙ read-back (tells b)));
+      known = by-definition askOf _ (λ a. read-back (tells a));
     }
 
 -- and so by every call that meets its contract, beside every advance that meets its own
@@ -250,5 +250,5 @@ module _
           waiting = beside (d .waiting);
           named = beside (d .named);
           next = beside (d .next);
-          apart = λ a told c b other o. d .apart a told (answers a told c) b other (answers b other o);
+          known = by-meeting answers (d .known);
         }

@@ -1,15 +1,16 @@
 -- Why a flow is silent in the slot that a run is about to run, or is not: what is owed by any call that tells it, beside any advance. Leans on
 -- Demands.
-use Prim.Native.Nat.{ℕ, _*_, _≤_, _<_}
+use Prim.Native.Nat.{ℕ, _-_, _*_, _≤_, _<_}
 use mathlib.Core.Path.{_≡_}
 use mathlib.Core.Logic.{_⊎_, _↔_}
-use mathlib.Core.Bool.{true}
+use mathlib.Core.Bool.{true, cond}
 use mathlib.Core.List.{List}
+use lib.Dec.{eqb}
 use lib.ListN.{length}
 use Rattle.trade.specs.Limits.{grantBytes}
 use Rattle.trade.specs.Facts.{said}
 use Rattle.trade.specs.Conflict.{conflict}
-use Rattle.trade.specs.Answers.{refused}
+use Rattle.trade.specs.Answers.{refused, isDone}
 use Rattle.trade.specs.Slot.{doneNow}
 use Rattle.trade.specs.Area.{stateIn}
 use Rattle.trade.specs.Calls.{Advancing, Advanced}
@@ -79,6 +80,16 @@ pub record WaitsOn (a : Asking) (advanced : Advanced) (h : ℕ) : Type 0 where
 abbrev pub OneOfFour : Told → Type 0
 OneOfFour told = (told ≡ Told.NotReleased) ⊎ (told ≡ Told.Finished) ⊎ (told ≡ Told.Granted) ⊎ ((h : ℕ) × (told ≡ Told.WaitingOn h))
 
+-- what is told, as it is read in the one answer: refused, or by its number which of the four
+unfoldable pub toldBy : Answer → Told
+toldBy r =
+    cond (isDone r)
+    (cond (eqb (r .number) (answerOf Told.NotReleased .number)) Told.NotReleased
+    (cond (eqb (r .number) (answerOf Told.Finished .number)) Told.Finished
+    (cond (eqb (r .number) (answerOf Told.Granted .number)) Told.Granted
+    (Told.WaitingOn (r .number - answerOf (Told.WaitingOn 0) .number)))))
+    (Told.Refused r)
+
 -- IT IS TOLD WHY
 pub record TellsWhy (advance : Advancing → Advanced → Type 0) (ask : Asking → Told → Type 0) : Type 0 where
   -- a refusal is told exactly when it is the first by the call's rules in their order: each has one number and one place
@@ -116,5 +127,5 @@ pub record TellsWhy (advance : Advancing → Advanced → Type 0) (ask : Asking 
       → (h : ℕ) × (told ≡ Told.WaitingOn h))
   -- the grant of a flow is its next step
   pub next : Beside advance ask (λ a told advanced. (i j : ℕ) → GrantsFlow a advanced i j → grantAt (advanced .grants) j ≡ nextGrant a i)
-  -- in one answer no two that are told have the same code and number
-  pub apart : Always ask (λ a told. Always ask (λ b other. answerOf told ≡ answerOf other → told ≡ other))
+  -- what is told is known by the one answer
+  pub known : Always ask (λ a told. toldBy (answerOf told) ≡ told)

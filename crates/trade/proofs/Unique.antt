@@ -10,6 +10,8 @@ use Rattle.trade.proofs.answer.Answer.refused.Kinds as refused-kinds
 use Rattle.trade.proofs.answer.Answer.refused.Reads as refused
 use Rattle.trade.proofs.answer.Answer.packed.Kinds as packed-kinds
 use Rattle.trade.proofs.answer.Answer.packed.Reads as packed
+use Rattle.trade.proofs.told.Told.answer.Kinds as told-answer-kinds
+use Rattle.trade.proofs.told.Told.answer.Reads as told-answer
 use Rattle.trade.proofs.state.Progress.idle.Kinds as idle-kinds
 use Rattle.trade.proofs.state.Progress.idle.Reads as idle
 use Rattle.trade.proofs.state.Run.empty.Kinds as empty-kinds
@@ -33,6 +35,9 @@ refused-unique κs a r r' s s' p q = one-result p q
 
 pub packed-unique : OneResult 0 packed-kinds.ps packed-kinds.r packed.Post
 packed-unique κs a r r' s s' p q = one-result p q
+
+pub told-answer-unique : OneResult 0 told-answer-kinds.ps told-answer-kinds.r told-answer.Post
+told-answer-unique κs a r r' s s' p q = one-result p q
 
 pub idle-unique : OneResult 0 idle-kinds.ps idle-kinds.r idle.Post
 idle-unique κs a r r' s s' p q = one-result p q

@@ -109,7 +109,7 @@ module _ (b area grants : List ℕ) where
           area-fits ∙ firstOf-refuse _ _ count handed (refuses 12 0 e) ∙ e
 
       module _ (lent : grantBytes * said b .flows ≤ length grants) where
-        by-run :
+        pub by-run :
             advanceAnswer handed
             ≡ cond (isDone (slotAnswer (said b) area)) (done (length (flowsGranted handed))) (slotAnswer (said b) area)
         unfolding runAnswer firstOf

@@ -9,6 +9,13 @@ list:
 	@rt check slotlist >target/make.log 2>&1 || { cat target/make.log; exit 1; }
 	@tools/list.sh $(BOOK)
 
+# Why each flow of a book waits in each of its first slots, or that it does not, by the proved program; `make why SLOTS=7` for so many slots.
+.PHONY: why
+why:
+	@mkdir -p target
+	@rt check planner >target/make.log 2>&1 || { cat target/make.log; exit 1; }
+	@tools/program.sh planner why $(SLOTS) <$(BOOK)
+
 test:
 	bash .ci/run
 

@@ -15,7 +15,7 @@ pub fn print(text: &[u8]) {
 }
 
 // One more number of a line.
-fn print_next(n: u64) {
+pub fn print_next(n: u64) {
     print(b" ");
     io::print_decimal(STDOUT_FILENO, n);
 }
@@ -36,13 +36,13 @@ pub fn print_answer(answer: Answer) {
 }
 
 // REFUSED code number
-pub(crate) fn print_refusal(answer: Answer) {
+pub fn print_refusal(answer: Answer) {
     print(b"REFUSED");
     print_answer(answer);
 }
 
 // BOOK n m
-pub(crate) fn print_book(nodes: usize, flows: usize) {
+pub fn print_book(nodes: usize, flows: usize) {
     print(b"BOOK");
     print_next(nodes as u64);
     print_next(flows as u64);

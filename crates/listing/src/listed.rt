@@ -18,7 +18,7 @@ use trade::Run;
 use trade::Slot;
 
 // So many slots are listed.
-const SLOTS: u32 = 12;
+pub const SLOTS: u32 = 12;
 
 // The bound of each flow, in record order.
 fn list_bounds(flows: usize, records: &[u8], bounds: &[u16; Flow::MOST])

@@ -1,7 +1,8 @@
 #!/bin/sh
 # Makes the archives that bench and stack.sh look at, in target/staticlib:   host/archives.sh
-#   libradio.a    check, start and advance, for C
-#   libtables.a   the calls on a table, which C does not have (tables.rattle): a crate of its own over copies of the others
+#   libradio.a        check, start and advance, for the radio stack in C
+#   libmiddleware.a   why, for the middleware in C
+#   libtables.a       the calls on a table, which C does not have (tables.rattle): a crate of its own over copies of the others
 set -eu
 here=$(cd "$(dirname "$0")" && pwd)
 work=$(mktemp -d)
@@ -14,6 +15,7 @@ quietly() {
 
 cd "$here/.."
 quietly rt staticlib radio
+quietly rt staticlib middleware
 quietly rt check changes
 mkdir -p "$work/crates/tables/src" "$work/target"
 cp -r crates crates.txt "$work"

@@ -1,7 +1,7 @@
 #!/bin/sh
 # The stack that each call takes, read out of its compiled code, as a table in Markdown:   host/stack.sh
 #   A call takes its return address, its frame, and the most that a function which it calls takes: the frames of the deepest chain are
-#   added up. It looks into the two archives that archives.sh makes. Check, start and advance must agree with what bench measures as
+#   added up. It looks into the archives that archives.sh makes. Check, start and advance must agree with what bench measures as
 #   they run.
 set -eu
 here=$(cd "$(dirname "$0")" && pwd)
@@ -107,5 +107,6 @@ frames() {
 echo "| stack | bytes | the deepest chain, and the frames |"
 echo "|---|---:|---|"
 frames "$archives/libradio.a" check=slot_check start=slot_start advance=slot_advance
+frames "$archives/libmiddleware.a" why=slot_why
 frames "$archives/libtables.a" read=table::table::read write=table::written::write add=changes::change::add \
     remove=changes::change::remove check_of_a_table=table::checked::check_table

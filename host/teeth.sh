@@ -75,6 +75,16 @@ spoil book.rs 's/(beyond | 1 << x)/(beyond << 1 | 1 << x)/' "bit n let through"
 spoil book.rs 's/sender(step) != receiver(last)/(sender(step) != receiver(last)) \& (sender(step) != sender(last))/' "a step from the same sender let through"
 spoil book.rs 's/breaks == between_plans/breaks <= between_plans + 1/' "one jump let through"
 
+spoil why.rs 's/(0..place).find(blocks)/(0..place).rev().find(blocks)/' "the last blocker for the first"
+spoil why.rs 's/goes(h) && step(h)/step(h)/' "a blocker that itself waits"
+spoil why.rs 's/slot < self.record(place).phase/false/' "finished before the first release"
+spoil why.rs 's/slot < self.record(place).phase/slot <= self.record(place).phase/' "not released in the slot of the first release"
+spoil why.rs 's/code_of(ran) != DONE/& \&\& (code_of(ran) != UNFINISHED || place < self.flows())/' "15 before 11"
+spoil why.rs 's/ - usize::from(goes(i))//' "what is told by the steps behind those that are granted"
+spoil why.rs 's/ | answers != 0/ != 0/' "a blocker without acknowledgements"
+spoil mod.rs 's/area.get(..AREA_BYTES)/[area, \&[0]].concat().get(..AREA_BYTES)/' "why on an area one byte short"
+spoil mod.rs 's/book.why(area, place)/book.why(area, place % 256)/' "a place by its lowest byte"
+
 by=requests
 spoil bound.rs "s/$alone/$by_deadline/" "in adding and in the check of a table, each flow above carried in up to its deadline"
 old='^ *test_figures(&old, table)?;$'

@@ -21,7 +21,14 @@ pub const BAD_FIGURE: u32 = 17;
 /// One more than the highest code.
 pub const CODES: usize = 18;
 
+/// What is told of a flow in the slot about to run.
+pub const NOT_RELEASED: usize = 0;
+pub const FINISHED: usize = 1;
+pub const GRANTED: usize = 2;
+pub const WAITING: usize = 3;
+
 const CODE_UNIT: u32 = 65_536;
+const KIND_UNIT: usize = 256;
 
 pub const fn packed(code: u32, number: usize) -> u32 {
     code * CODE_UNIT + number as u32
@@ -33,4 +40,13 @@ pub const fn code_of(answer: u32) -> u32 {
 
 pub const fn number_of(answer: u32) -> usize {
     (answer % CODE_UNIT) as usize
+}
+
+/// What is told of a flow, as a number; of a flow that waits, with the place that it waits on.
+pub const fn told(kind: usize, place: usize) -> usize {
+    KIND_UNIT * kind + place
+}
+
+pub const fn kind_of(answer: u32) -> usize {
+    number_of(answer) / KIND_UNIT
 }

@@ -1,4 +1,4 @@
-//! Run areas and grant buffers for one advance: ordinary ones, and ones at or past every edge.
+//! Run areas and grant buffers for one advance, and places to ask about: ordinary ones, and ones at or past every edge.
 
 use crate::dice::Dice;
 use crate::draft::Draft;
@@ -68,4 +68,16 @@ pub fn grants(dice: &mut Dice, flows: usize) -> Vec<u8> {
         _ => need,
     };
     dice.bytes(count)
+}
+
+/// A place to ask about: that of a flow as a rule, at and past the last, or one that looks like a flow's in its lower bytes alone.
+pub fn place(dice: &mut Dice, flows: usize) -> usize {
+    let among = dice.below(flows);
+    let high = 1usize << dice.pick(&[8, 16, 31, 32, 63]);
+    let edge = dice.pick(&[flows, flows + 1, MAX_FLOWS, high, high + among, usize::MAX]);
+    if dice.once_in(6) {
+        edge
+    } else {
+        among
+    }
 }

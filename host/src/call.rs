@@ -7,15 +7,19 @@ use crate::planner::Planner;
 use crate::tally::Answers;
 use std::fmt;
 
+const SLOT_OR_PLACE: &[&str] = &["slot", "place"];
+const ALONE_OR_AHEAD: &[&str] = &["alone", "ahead of 15"];
+
 #[derive(Clone, Copy, Debug, PartialEq, Eq)]
 pub enum Kind {
     Check,
     Start,
     Advance,
+    Why,
 }
 
 impl Kind {
-    pub const ALL: [Kind; 3] = [Kind::Check, Kind::Start, Kind::Advance];
+    pub const ALL: [Kind; 4] = [Kind::Check, Kind::Start, Kind::Advance, Kind::Why];
 
     pub fn name(self) -> &'static str {
         self.answers().call
@@ -23,26 +27,38 @@ impl Kind {
 
     pub const fn answers(self) -> Answers {
         match self {
-            Kind::Check => Answers { call: "check", codes: &[DONE, 1, 2, 3, 4, 5, 6, 7, 8, NO_BOUND], twofold: &[] },
+            Kind::Check => Answers { call: "check", codes: &[DONE, 1, 2, 3, 4, 5, 6, 7, 8, NO_BOUND], reasons: &[] },
             Kind::Start => {
-                Answers { call: "start", codes: &[DONE, 1, 2, 3, 4, 5, 6, 7, 8, NO_BOUND, SHORT_MEMORY], twofold: &[] }
+                Answers { call: "start", codes: &[DONE, 1, 2, 3, 4, 5, 6, 7, 8, NO_BOUND, SHORT_MEMORY], reasons: &[] }
             }
             Kind::Advance => Answers {
                 call: "advance",
                 codes: &[DONE, 1, 2, 3, 4, 5, 6, 7, 8, SHORT_MEMORY, BAD_AREA, END_REACHED, UNFINISHED],
-                twofold: &[(SHORT_MEMORY, ["area", "grants"]), (BAD_AREA, ["slot", "place"])],
+                reasons: &[(SHORT_MEMORY, &["area", "grants"]), (BAD_AREA, SLOT_OR_PLACE)],
+            },
+            Kind::Why => Answers {
+                call: "why",
+                codes: &[DONE, 1, 2, 3, 4, 5, 6, 7, 8, SHORT_MEMORY, BAD_AREA, END_REACHED, UNFINISHED, BAD_PLACE],
+                reasons: &[
+                    (DONE, &["not released", "finished", "granted", "waiting"]),
+                    (SHORT_MEMORY, ALONE_OR_AHEAD),
+                    (BAD_AREA, SLOT_OR_PLACE),
+                    (END_REACHED, ALONE_OR_AHEAD),
+                    (UNFINISHED, ALONE_OR_AHEAD),
+                ],
             },
         }
     }
 }
 
-/// A call and what it is handed. Check takes only the book, start the book and the area.
+/// A call and what it is handed. Check takes only the book, start the book and the area, and why both and the place.
 #[derive(Clone, Copy)]
 pub struct Call<'a> {
     pub kind: Kind,
     pub book: &'a [u8],
     pub area: &'a [u8],
     pub grants: &'a [u8],
+    pub place: usize,
 }
 
 /// The answer, and the lent memory afterwards, whole.
@@ -51,31 +67,37 @@ pub struct Outcome {
     pub answer: u32,
     pub area: Vec<u8>,
     pub grants: Vec<u8>,
-    /// Whether the bytes next to the lent memory, and the book, are what they were.
+    /// Whether the bytes next to the lent memory, and what the call may only read, are what they were.
     pub kept_out: bool,
 }
 
 impl<'a> Call<'a> {
     pub fn check(book: &'a [u8]) -> Call<'a> {
-        Call { kind: Kind::Check, book, area: &[], grants: &[] }
+        Call { kind: Kind::Check, book, area: &[], grants: &[], place: 0 }
     }
 
     pub fn start(book: &'a [u8], area: &'a [u8]) -> Call<'a> {
-        Call { kind: Kind::Start, book, area, grants: &[] }
+        Call { kind: Kind::Start, book, area, grants: &[], place: 0 }
     }
 
     pub fn advance(book: &'a [u8], area: &'a [u8], grants: &'a [u8]) -> Call<'a> {
-        Call { kind: Kind::Advance, book, area, grants }
+        Call { kind: Kind::Advance, book, area, grants, place: 0 }
     }
 
-    /// Which of the two reasons for a code holds of what is handed in; 0 where the code has but one. The area is tested ahead of the
-    /// grants, and its slot ahead of its places.
-    pub fn reason(&self, code: u32) -> usize {
-        usize::from(match (self.kind, code) {
-            (Kind::Advance, SHORT_MEMORY) => self.area.len() >= AREA_BYTES,
-            (Kind::Advance, BAD_AREA) => slot_of(self.area) <= u64::from(END_OF_SLOTS),
-            _ => false,
-        })
+    pub fn why(book: &'a [u8], area: &'a [u8], place: usize) -> Call<'a> {
+        Call { kind: Kind::Why, book, area, grants: &[], place }
+    }
+
+    /// Which of the reasons for the code of an answer holds, by what is handed in or, of why, by what is told; 0 where the code has but
+    /// one. The area is tested ahead of the grants and of the place that is asked about, and its slot ahead of its places.
+    pub fn reason(&self, answer: u32) -> usize {
+        match (self.kind, code_of(answer)) {
+            (Kind::Why, DONE) => kind_of(answer),
+            (Kind::Why, SHORT_MEMORY | END_REACHED | UNFINISHED) => usize::from(self.place >= MAX_FLOWS),
+            (Kind::Advance, SHORT_MEMORY) => usize::from(self.area.len() >= AREA_BYTES),
+            (Kind::Advance | Kind::Why, BAD_AREA) => usize::from(slot_of(self.area) <= u64::from(END_OF_SLOTS)),
+            _ => 0,
+        }
     }
 
     /// Makes the call on copies of the memory, each between two margins.
@@ -86,8 +108,10 @@ impl<'a> Call<'a> {
             Kind::Check => planner.check(&book),
             Kind::Start => planner.start(&book, area.part()),
             Kind::Advance => planner.advance(&book, area.part(), grants.part()),
+            Kind::Why => planner.why(&book, area.part(), self.place),
         };
-        let kept_out = book == self.book && area.margins_kept() && grants.margins_kept();
+        let only_read = book == self.book && (self.kind != Kind::Why || area.part() == self.area);
+        let kept_out = only_read && area.margins_kept() && grants.margins_kept();
         Outcome { answer, area: area.part().to_vec(), grants: grants.part().to_vec(), kept_out }
     }
 }
@@ -95,7 +119,8 @@ impl<'a> Call<'a> {
 /// The call as words that `compare again` takes back.
 impl fmt::Display for Call<'_> {
     fn fmt(&self, out: &mut fmt::Formatter) -> fmt::Result {
-        write!(out, "{} {} {} {}", self.kind.name(), hex(self.book), hex(self.area), hex(self.grants))
+        let [book, area, grants] = [self.book, self.area, self.grants].map(hex);
+        write!(out, "{} {book} {area} {grants} {}", self.kind.name(), self.place)
     }
 }
 

@@ -25,6 +25,8 @@ pub const CASES: &[Case] = &[
     ("12, largest counts and period", largest),
     ("13, last slot", last_slot),
     ("listing of A", listing_of_a),
+    ("why the flows of B wait", reasons_of_b),
+    ("refusals of why, in their order", refusals_of_why),
 ];
 
 /// Slot, flow id, instance, step, sender, receiver.
@@ -231,4 +233,47 @@ fn listing_of_a(planner: &dyn Planner) -> Result<(), String> {
         (11, 7, 1, 1, 1, 2),
     ];
     same("grants", run(planner, &book_a(), 12)?, wanted)
+}
+
+/// What is told of each flow of B in each of its first twelve slots, in which flow 3 waits twice for flow 2.
+fn reasons_of_b(planner: &dyn Planner) -> Result<(), String> {
+    let book = book_b().bytes();
+    let (mut area, mut grants) = ([0; AREA_BYTES], [0; 3 * GRANT_BYTES]);
+    same("start", planner.start(&book, &mut area), accepted())?;
+    let (unreleased, finished, granted) = (told(NOT_RELEASED, 0), told(FINISHED, 0), told(GRANTED, 0));
+    for slot in 0..12 {
+        let wanted = match slot {
+            0..=4 => [granted, told(WAITING, 0), unreleased],
+            5 | 10 => [finished, granted, told(WAITING, 1)],
+            _ => [finished, finished, granted],
+        };
+        for (place, number) in wanted.into_iter().enumerate() {
+            let what = format!("why in slot {slot} at place {place}");
+            same(&what, planner.why(&book, &area, place), packed(DONE, number))?;
+        }
+        same("code of advance", code_of(planner.advance(&book, &mut area, &mut grants)), DONE)?;
+    }
+    Ok(())
+}
+
+/// Faults of the book, the area and the place, put right one after the other from the first that is tested to the last. Both flows of A
+/// are released in slot 60.
+fn refusals_of_why(planner: &dyn Planner) -> Result<(), String> {
+    let (cut, book) = (&book_a().bytes()[1..], book_a().bytes());
+    let area = |slot: u32, done: [u8; 2]| [&slot.to_be_bytes()[..], &done, &[0; MAX_FLOWS - 2]].concat();
+    let long_past = END_OF_SLOTS + 1;
+    for (book, area, place, answer) in [
+        (cut, &[][..], usize::MAX, packed(BAD_DISTANCE, 0)),
+        (&book, &area(long_past, [4, 4])[..AREA_BYTES - 1], usize::MAX, packed(SHORT_MEMORY, 0)),
+        (&book, &area(long_past, [3, 4]), usize::MAX, packed(BAD_AREA, 0)),
+        (&book, &area(END_OF_SLOTS, [3, 4]), usize::MAX, packed(BAD_AREA, 1)),
+        (&book, &area(END_OF_SLOTS, [0, 0]), usize::MAX, packed(END_REACHED, 0)),
+        (&book, &area(60, [0, 0]), usize::MAX, packed(UNFINISHED, 0)),
+        (&book, &area(60, [3, 0]), 2, packed(UNFINISHED, 1)),
+        (&book, &area(60, [3, 3]), 2, packed(BAD_PLACE, 0)),
+        (&book, &area(60, [3, 3]), 1, packed(DONE, told(GRANTED, 0))),
+    ] {
+        same("why", planner.why(book, area, place), answer)?;
+    }
+    Ok(())
 }

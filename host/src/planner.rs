@@ -1,4 +1,5 @@
-//! The three calls as the radio stack sees them, those on a table that are timed, and the planners that answer them.
+//! The three calls as the radio stack sees them, that of the middleware, those on a table that are timed, and the planners that answer
+//! them.
 
 use crate::keen::Keen;
 use crate::limits::MAX_FLOWS;
@@ -10,6 +11,7 @@ pub trait Planner {
     fn check(&self, book: &[u8]) -> u32;
     fn start(&self, book: &[u8], area: &mut [u8]) -> u32;
     fn advance(&self, book: &[u8], area: &mut [u8], grants: &mut [u8]) -> u32;
+    fn why(&self, book: &[u8], area: &[u8], place: usize) -> u32;
 
     /// The calls on a table, if it has them.
     fn tables(&self) -> Option<&dyn Tables> {
@@ -27,7 +29,7 @@ pub trait Tables {
     fn check_table(&self, table: &TableBytes, bounds: &mut [u16; MAX_FLOWS]) -> u32;
 }
 
-/// Every planner in this build; the proved one is there when its archive was linked.
+/// Every planner in this build; the proved one is there when its archives were linked.
 pub fn all() -> Vec<&'static dyn Planner> {
     vec![
         &Plain,

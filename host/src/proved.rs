@@ -14,11 +14,12 @@ extern "C" {
         grants: *mut u8,
         grants_len: usize,
     ) -> u32;
+    fn slot_why(book: *const u8, book_len: usize, area: *const u8, area_len: usize, place: usize) -> u32;
 }
 
 pub struct Proved;
 
-// SAFETY of the three calls: each pointer and length comes from one live slice, a written one is lent exclusively,
+// SAFETY of the four calls: each pointer and length comes from one live slice, a written one is lent exclusively,
 // and the library keeps none of them.
 impl Planner for Proved {
     fn name(&self) -> &'static str {
@@ -36,6 +37,10 @@ impl Planner for Proved {
     fn advance(&self, book: &[u8], area: &mut [u8], grants: &mut [u8]) -> u32 {
         let (area_at, grants_at) = (area.as_mut_ptr(), grants.as_mut_ptr());
         unsafe { slot_advance(book.as_ptr(), book.len(), area_at, area.len(), grants_at, grants.len()) }
+    }
+
+    fn why(&self, book: &[u8], area: &[u8], place: usize) -> u32 {
+        unsafe { slot_why(book.as_ptr(), book.len(), area.as_ptr(), area.len(), place) }
     }
 
     #[cfg(tables)]

@@ -28,29 +28,29 @@ pub enum Request {
     CheckTable { table: Table },
 }
 
-const OLD_OR_NEW: [&str; 2] = ["old table", "new table"];
-const ALONE_OR_AHEAD: [&str; 2] = ["alone", "ahead of 14 or 15"];
-const RIGHT_OR_WRONG: [&str; 2] = ["right figures", "wrong figures"];
+const OLD_OR_NEW: &[&str] = &["old table", "new table"];
+const ALONE_OR_AHEAD: &[&str] = &["alone", "ahead of 14 or 15"];
+const RIGHT_OR_WRONG: &[&str] = &["right figures", "wrong figures"];
 
 /// The calls in the order of their numbers.
 pub const CALLS: [Answers; 6] = [
-    Answers { call: "read", codes: &[DONE, 1, 2, 3, 4, 5, 6, 7, 8], twofold: &[] },
-    Answers { call: "write", codes: &[DONE, 3, 5, 6, 8, SHORT_MEMORY], twofold: &[(DONE, RIGHT_OR_WRONG)] },
+    Answers { call: "read", codes: &[DONE, 1, 2, 3, 4, 5, 6, 7, 8], reasons: &[] },
+    Answers { call: "write", codes: &[DONE, 3, 5, 6, 8, SHORT_MEMORY], reasons: &[(DONE, RIGHT_OR_WRONG)] },
     Answers {
         call: "add",
         codes: &[DONE, 3, 5, BAD_RECORD, BAD_STEP, BAD_FIGURE, TABLE_FULL, BAD_PLACE, NO_BOUND],
-        twofold: &[(BAD_RECORD, OLD_OR_NEW), (BAD_STEP, OLD_OR_NEW), (BAD_FIGURE, ALONE_OR_AHEAD)],
+        reasons: &[(BAD_RECORD, OLD_OR_NEW), (BAD_STEP, OLD_OR_NEW), (BAD_FIGURE, ALONE_OR_AHEAD)],
     },
     Answers {
         call: "remove",
         codes: &[DONE, 3, 5, 6, 8, BAD_FIGURE, BAD_PLACE],
-        twofold: &[(BAD_FIGURE, ALONE_OR_AHEAD)],
+        reasons: &[(BAD_FIGURE, ALONE_OR_AHEAD)],
     },
     Kind::Check.answers(),
     Answers {
         call: "check of a table",
         codes: &[DONE, 3, 5, 6, 8, NO_BOUND],
-        twofold: &[(DONE, RIGHT_OR_WRONG), (NO_BOUND, RIGHT_OR_WRONG)],
+        reasons: &[(DONE, RIGHT_OR_WRONG), (NO_BOUND, RIGHT_OR_WRONG)],
     },
 ];
 

@@ -1,19 +1,22 @@
-//! How often each call answered each of its codes and, where a call has two reasons for a code, for which of them.
+//! How often each call answered each of its codes and, where a call has several reasons for a code, for which of them.
 
 use crate::answer::CODES;
 
-/// What a call can answer: its codes in the order of their tests, and what the two reasons are where it has two for a code.
+/// What a call can answer: its codes in the order of their tests, and what the reasons are where it has several for a code.
 #[derive(Clone, Copy)]
 pub struct Answers {
     pub call: &'static str,
     pub codes: &'static [u32],
-    pub twofold: &'static [(u32, [&'static str; 2])],
+    pub reasons: &'static [(u32, &'static [&'static str])],
 }
 
-/// How often a call answered each code, for the first of its reasons and for the second.
+/// No code has more reasons.
+const MOST_REASONS: usize = 4;
+
+/// How often a call answered each code, for each of its reasons.
 struct Row {
     answers: Answers,
-    counts: [[u64; 2]; CODES],
+    counts: [[u64; MOST_REASONS]; CODES],
 }
 
 pub struct Tally {
@@ -22,10 +25,10 @@ pub struct Tally {
 
 impl Tally {
     pub fn new(calls: impl IntoIterator<Item = Answers>) -> Tally {
-        Tally { rows: calls.into_iter().map(|answers| Row { answers, counts: [[0; 2]; CODES] }).collect() }
+        Tally { rows: calls.into_iter().map(|answers| Row { answers, counts: [[0; MOST_REASONS]; CODES] }).collect() }
     }
 
-    /// One more answer of a call, for the reason at a place among the two; 0 where there is but one.
+    /// One more answer of a call, for the reason at a place among those of its code; 0 where there is but one.
     pub fn count(&mut self, call: &str, code: u32, reason: usize) {
         let row = self.rows.iter_mut().find(|row| row.answers.call == call).expect("a call of the list");
         row.counts[code as usize][reason] += 1;
@@ -57,15 +60,15 @@ impl Row {
         self.counts.iter().flatten().sum()
     }
 
-    /// Each code, or each reason of a code that has two, in words, and how often it was met.
+    /// Each code, or each reason of a code that has several, in words, and how often it was met.
     fn met(&self) -> Vec<(String, u64)> {
         let mut met = Vec::new();
         for &code in self.answers.codes {
-            let [first, second] = self.counts[code as usize];
-            match self.answers.twofold.iter().find(|(of, _)| *of == code) {
-                None => met.push((code.to_string(), first)),
-                Some((_, [one, other])) => {
-                    met.extend([(format!("{code} ({one})"), first), (format!("{code} ({other})"), second)])
+            let counts = self.counts[code as usize];
+            match self.answers.reasons.iter().find(|(of, _)| *of == code) {
+                None => met.push((code.to_string(), counts[0])),
+                Some((_, reasons)) => {
+                    met.extend(reasons.iter().zip(counts).map(|(reason, count)| (format!("{code} ({reason})"), count)))
                 }
             }
         }

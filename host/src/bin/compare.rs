@@ -1,7 +1,7 @@
 //! Asks two planners the same questions and compares everything they leave behind.
 //!
 //!     compare [--calls N] [--seed S] [--between A B]
-//!     compare again KIND BOOK AREA GRANTS [--between A B]     one call, from the words of a mismatch
+//!     compare again KIND BOOK AREA GRANTS PLACE [--between A B]     one call, from the words of a mismatch
 
 use slot_host::aimed::{self, Aimed};
 use slot_host::answer::{code_of, packed, DONE, NO_BOUND};
@@ -17,7 +17,7 @@ use slot_host::planner::{self, Planner};
 use slot_host::tally::Tally;
 use std::process::ExitCode;
 
-const CALLS: u64 = 400_000;
+const CALLS: u64 = 600_000;
 
 fn main() -> ExitCode {
     let mut options = Options::from_args();
@@ -60,17 +60,24 @@ impl Desk {
             return Err(format!("MISMATCH\n  {a}: {ours}\n  {b}: {theirs}\n  to repeat: compare again {call}"));
         }
         let code = code_of(ours.answer);
-        self.tally.count(call.kind.name(), code, call.reason(code));
+        self.tally.count(call.kind.name(), code, call.reason(ours.answer));
         Ok(ours)
     }
 
-    /// All three calls on one slice, whatever it is.
-    fn ask_all(&mut self, dice: &mut Dice, book: &[u8], draft: &Draft) -> Result<[u32; 3], String> {
+    /// All four calls on one slice, whatever it is.
+    fn ask_all(&mut self, dice: &mut Dice, book: &[u8], draft: &Draft) -> Result<[u32; 4], String> {
         let checked = self.ask(Call::check(book))?;
         let started = self.ask(Call::start(book, &areas::memory(dice)))?;
         let (area, grants) = (areas::area(dice, draft), areas::grants(dice, draft.flows.len()));
         let advanced = self.ask(Call::advance(book, &area, &grants))?;
-        Ok([checked.answer, started.answer, advanced.answer])
+        let told = self.ask_why(dice, book, &area, draft)?;
+        Ok([checked.answer, started.answer, advanced.answer, told])
+    }
+
+    /// Why, of a place at random.
+    fn ask_why(&mut self, dice: &mut Dice, book: &[u8], area: &[u8], draft: &Draft) -> Result<u32, String> {
+        let place = areas::place(dice, draft.flows.len());
+        Ok(self.ask(Call::why(book, area, place))?.answer)
     }
 }
 
@@ -89,7 +96,7 @@ fn compare(desk: &mut Desk, calls: u64, seed: u64) -> Result<(), String> {
     desk.tally.close()
 }
 
-/// A valid book: the three calls, many slots out of any area, a run from start and one from anywhere, and damaged
+/// A valid book: the four calls, many slots out of any area, a run from start and one from anywhere, and damaged
 /// copies.
 fn one_book(desk: &mut Desk, dice: &mut Dice, draft: &Draft) -> Result<(), String> {
     let book = draft.bytes();
@@ -97,6 +104,7 @@ fn one_book(desk: &mut Desk, dice: &mut Dice, draft: &Draft) -> Result<(), Strin
     for _ in 0..24 {
         let (area, grants) = (areas::area(dice, draft), areas::grants(dice, draft.flows.len()));
         desk.ask(Call::advance(&book, &area, &grants))?;
+        desk.ask_why(dice, &book, &area, draft)?;
     }
     let started = desk.ask(Call::start(&book, &areas::memory(dice)))?;
     if started.answer == packed(DONE, 0) {
@@ -118,6 +126,7 @@ fn run(desk: &mut Desk, dice: &mut Dice, draft: &Draft, book: &[u8], mut area: V
     let slots = dice.pick(&[20, 60, 60, 300]);
     let mut grants = dice.bytes(GRANT_BYTES * draft.flows.len() + 3);
     for _ in 0..slots {
+        desk.ask_why(dice, book, &area, draft)?;
         let advanced = desk.ask(Call::advance(book, &area, &grants))?;
         if code_of(advanced.answer) != DONE {
             break;
@@ -131,11 +140,11 @@ fn run(desk: &mut Desk, dice: &mut Dice, draft: &Draft, book: &[u8], mut area: V
 fn aimed_books(desk: &mut Desk, dice: &mut Dice, shape: &Shape) -> Result<(), String> {
     let draft = accepted(dice, shape);
     for Aimed { book, answer } in aimed::around(dice, &draft) {
-        let [checked, started, advanced] = desk.ask_all(dice, &book, &draft)?;
+        let [checked, started, advanced, told] = desk.ask_all(dice, &book, &draft)?;
         let passes = answer == packed(DONE, 0);
         let wrong = checked != answer
             || (!passes && started != answer)
-            || (!passes && code_of(answer) != NO_BOUND && advanced != answer);
+            || (!passes && code_of(answer) != NO_BOUND && [advanced, told] != [answer; 2]);
         if wrong {
             let (code, call) = (code_of(answer), Call::check(&book));
             return Err(format!("WRONG ANSWER, both, where code {code} was aimed at\n  compare again {call}"));
@@ -145,12 +154,13 @@ fn aimed_books(desk: &mut Desk, dice: &mut Dice, shape: &Shape) -> Result<(), St
 }
 
 fn again(desk: &mut Desk, words: &[String]) -> Result<(), String> {
-    let usage = || "compare again KIND BOOK AREA GRANTS, in hex, - for nothing".to_string();
-    let [kind, book, area, grants] = words else { return Err(usage()) };
+    let usage = || "compare again KIND BOOK AREA GRANTS, in hex, - for nothing, and PLACE".to_string();
+    let [kind, book, area, grants, place] = words else { return Err(usage()) };
     let kind = Kind::ALL.into_iter().find(|known| known.name() == kind).ok_or_else(usage)?;
     let bytes = |text: &String| from_hex(text).ok_or_else(usage);
     let (book, area, grants) = (bytes(book)?, bytes(area)?, bytes(grants)?);
-    let outcome = desk.ask(Call { kind, book: &book, area: &area, grants: &grants })?;
+    let place = place.parse().map_err(|_| usage())?;
+    let outcome = desk.ask(Call { kind, book: &book, area: &area, grants: &grants, place })?;
     println!("{} and {}: {outcome}", desk.a.name(), desk.b.name());
     Ok(())
 }

@@ -1,4 +1,4 @@
-//! The yardstick: the three calls, and those on a table that are timed, as a careful engineer would ship them. Each section of
+//! The yardstick: the calls for C, and those on a table that are timed, as a careful engineer would ship them. Each section of
 //! the book is tested in one go, node sets are 64-bit masks, the interference of several flows is worked out side by side in one
 //! word, the bound divides only where three instances of a flow count, and nothing is allocated or copied but a table.
 
@@ -6,6 +6,7 @@ mod book;
 mod bound;
 mod slot;
 mod table;
+mod why;
 
 use crate::answer::*;
 use crate::limits::*;
@@ -47,6 +48,17 @@ impl Planner for Keen {
         };
         match area.get_mut(..AREA_BYTES).map(<&mut [u8; AREA_BYTES]>::try_from) {
             Some(Ok(area)) if grants.len() >= GRANT_BYTES * book.flows() => book.run(area, grants),
+            _ => packed(SHORT_MEMORY, 0),
+        }
+    }
+
+    fn why(&self, book: &[u8], area: &[u8], place: usize) -> u32 {
+        let book = match Book::open(book) {
+            Ok(book) => book,
+            Err(answer) => return answer,
+        };
+        match area.get(..AREA_BYTES).map(<&[u8; AREA_BYTES]>::try_from) {
+            Some(Ok(area)) => book.why(area, place),
             _ => packed(SHORT_MEMORY, 0),
         }
     }

@@ -59,6 +59,10 @@ impl Planner for Plain {
         answer(run::advance(book, area, grants))
     }
 
+    fn why(&self, book: &[u8], area: &[u8], place: usize) -> u32 {
+        answer(run::why(book, area, place))
+    }
+
     fn tables(&self) -> Option<&dyn Tables> {
         Some(self)
     }

@@ -1,4 +1,4 @@
-//! Check, start and advance.
+//! Check, start, advance and why.
 
 use super::book::{open, Facts, Transmission};
 use super::{refuse_first, refuse_if, Refusal};
@@ -24,18 +24,7 @@ pub fn start(book: &[u8], area: &mut [u8]) -> Result<(), Refusal> {
 pub fn advance(book: &[u8], area: &mut [u8], grants: &mut [u8]) -> Result<usize, Refusal> {
     let facts = open(book)?.facts();
     refuse_if(area.len() < AREA_BYTES || grants.len() < GRANT_BYTES * facts.flows.len(), SHORT_MEMORY)?;
-    let mut state = State::read(&facts, area)?;
-    refuse_if(state.slot == u64::from(END_OF_SLOTS), END_REACHED)?;
-    let flows = &facts.flows;
-    refuse_first(UNFINISHED, flows.len(), |i| {
-        facts.released_now(i, state.slot) && state.done[i] != flows[i].plan.len()
-    })?;
-
-    for i in 0..flows.len() {
-        if facts.released_now(i, state.slot) {
-            state.done[i] = 0;
-        }
-    }
+    let mut state = State::in_its_slot(&facts, area)?;
     let granted = greedy(&facts, &state);
     for (place, grant) in granted.iter().enumerate() {
         state.done[grant.flow] += 1;
@@ -44,6 +33,27 @@ pub fn advance(book: &[u8], area: &mut [u8], grants: &mut [u8]) -> Result<usize,
     state.slot += 1;
     state.write(area);
     Ok(granted.len())
+}
+
+/// Why the flow at a place is silent in the slot about to run, or that it is not.
+pub fn why(book: &[u8], area: &[u8], place: usize) -> Result<usize, Refusal> {
+    let facts = open(book)?.facts();
+    refuse_if(area.len() < AREA_BYTES, SHORT_MEMORY)?;
+    let state = State::in_its_slot(&facts, area)?;
+    refuse_if(place >= facts.flows.len(), BAD_PLACE)?;
+    let flow = &facts.flows[place];
+    if state.slot < u64::from(flow.record.phase) {
+        return Ok(told(NOT_RELEASED, 0));
+    }
+    let Some(&step) = flow.plan.get(state.done[place]) else {
+        return Ok(told(FINISHED, 0));
+    };
+    let granted = greedy(&facts, &state);
+    if granted.iter().any(|grant| grant.flow == place) {
+        return Ok(told(GRANTED, 0));
+    }
+    let blocker = granted.iter().find(|grant| facts.conflict(grant.transmission, step));
+    Ok(told(WAITING, blocker.expect("a flow waits for a grant that conflicts").flow))
 }
 
 struct Grant {
@@ -112,6 +122,22 @@ impl State {
             }
         })?;
         Ok(State { slot, done: done[..facts.flows.len()].to_vec() })
+    }
+
+    /// The same, then codes 12 and 11; with the releases of the slot about to run.
+    fn in_its_slot(facts: &Facts, area: &[u8]) -> Result<State, Refusal> {
+        let mut state = State::read(facts, area)?;
+        refuse_if(state.slot == u64::from(END_OF_SLOTS), END_REACHED)?;
+        let flows = &facts.flows;
+        refuse_first(UNFINISHED, flows.len(), |i| {
+            facts.released_now(i, state.slot) && state.done[i] != flows[i].plan.len()
+        })?;
+        for i in 0..flows.len() {
+            if facts.released_now(i, state.slot) {
+                state.done[i] = 0;
+            }
+        }
+        Ok(state)
     }
 
     fn write(&self, area: &mut [u8]) {

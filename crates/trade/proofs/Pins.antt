@@ -7,7 +7,7 @@ use native.Mathlib.Omega.{arith}
 use Rattle.trade.specs.Bytes.{Bytes}
 use Rattle.trade.specs.Facts.{flowIn}
 use Rattle.trade.specs.Why.{blocks, why, askAnswer, askOf}
-use Rattle.trade.specs.Pins.{periodOf7, noMark, noNodes, badDistance, ownBit, noId, longerPlan, jump, tooTight, distances, stepTwo, trailerOfThree, counted, recorded, starts, advances, areaWith, ofOne, formedOfOne, alike, bookOf4, fullTable, oneFigure, keptA, behindA, fullKept, checksKept, meets, blocked, disturbed, releasesAt, due, adds, removes, writes, withSteps, bookOf5, areaOf5, told, toldOf, Pins}
+use Rattle.trade.specs.Pins.{periodOf7, noMark, noNodes, badDistance, ownBit, noId, longerPlan, jump, tooTight, distances, stepTwo, trailerOfThree, counted, recorded, starts, advances, areaWith, ofOne, formedOfOne, alike, bookOf3, bookOf4, fullTable, oneFigure, keptA, behindA, fullKept, checksKept, meets, blocked, disturbed, releasesAt, due, adds, removes, writes, withSteps, bookOf5, areaOf5, told, toldOf, Pins}
 use Rattle.trade.proofs.Cases.{computed}
 
 most-byte : Bytes (0xff ∷ [])
@@ -15,7 +15,7 @@ most-byte zero = omega arith
 most-byte (suc i) = omega arith
 
 pub pins-hold : Pins
-unfolding computed flowIn periodOf7 oneFigure keptA behindA fullKept checksKept noMark noNodes badDistance ownBit noId longerPlan jump tooTight distances stepTwo trailerOfThree counted recorded starts advances areaWith ofOne formedOfOne alike bookOf4 fullTable meets blocked disturbed releasesAt due adds removes writes withSteps blocks why askAnswer askOf bookOf5 areaOf5 told toldOf
+unfolding computed flowIn periodOf7 oneFigure keptA behindA fullKept checksKept noMark noNodes badDistance ownBit noId longerPlan jump tooTight distances stepTwo trailerOfThree counted recorded starts advances areaWith ofOne formedOfOne alike bookOf3 bookOf4 fullTable meets blocked disturbed releasesAt due adds removes writes withSteps blocks why askAnswer askOf bookOf5 areaOf5 told toldOf
 pins-hold =
     record {
       byte-255 = most-byte;
@@ -113,6 +113,9 @@ pins-hold =
       deadline-no-shorter = refl;
       deadline-no-longer = refl;
       deadline-kept = refl;
+      own-carry = refl;
+      deadline-starting = refl;
+      own-deadline = refl;
       deadline-adding = refl;
       one-instance = refl;
       two-instances = refl;

@@ -8,7 +8,7 @@ use lib.ListN.{length, take, drop, set, replicate}
 use Rattle.trade.specs.Limits.{mostFlows, mostSteps, mostPeriod, rowBytes, stepBytes, grantBytes}
 use Rattle.trade.specs.First.{listTo}
 use Rattle.trade.specs.Bytes.{Bytes, fourBytes}
-use Rattle.trade.specs.Layout.{Sections, sectionsOf}
+use Rattle.trade.specs.Layout.{Sections, sections, sectionsOf}
 use Rattle.trade.specs.Facts.{disturbsIn, factsOf, factsIn, flowIn, said}
 use Rattle.trade.specs.Table.{bookOf, tableOf, emptyTable}
 use Rattle.trade.specs.Answers.{done, refused}
@@ -19,7 +19,7 @@ use Rattle.trade.specs.Area.{stateIn}
 use Rattle.trade.specs.Codes.{code3, code6}
 use Rattle.trade.specs.SlotCodes.{code10}
 use Rattle.trade.specs.Kept.{Tabled, keptByDeadline}
-use Rattle.trade.specs.Calls.{Adding, readOf, checkOf, checkBy, checkKeptOf, checkKeptBy, writeOf, addOf, addBy, removeOf, startOf, advanceOf, recordOf}
+use Rattle.trade.specs.Calls.{Adding, readOf, checkOf, checkBy, checkKeptOf, checkKeptBy, writeOf, addOf, addBy, removeOf, startOf, startBy, advanceOf, recordOf}
 use Rattle.trade.specs.Why.{answerOf, askOf}
 use Rattle.trade.specs.Cases.{bookA, bookB, tableA, deadlineAt, deadlineOf9, lent, slotOf, sends, oneDisturbs, noneDisturbs, checks}
 use Rattle.trade.specs.declared.answer.Answer.{Answer}
@@ -31,7 +31,7 @@ use Rattle.trade.specs.declared.told.Told.the-variants.{Refused, NotRele
 abbrev pub deadlineOf7 : ℕ
 deadlineOf7 = 55
 
--- book A with another period of flow 7, and the same deadline
+-- book A with another period of flow 7, and its deadline the same number
 unfoldable pub periodOf7 : ℕ → List ℕ
 periodOf7 period = set (set bookA (deadlineOf7 - 2) period) deadlineOf7 period
 
@@ -115,6 +115,13 @@ alike nodes flows period =
       records = grantsOf (λ i. recordOf (flowOf (suc i) period 1)) (listTo (λ i. i) flows);
       steps = grantsOf (λ i. 0 ∷ 1 ∷ []) (listTo (λ i. i) flows);
     })
+
+-- a book of three flows over one link: P 6, 10 and 20, D 1, 5 and 20, L 1, 4 and 1
+unfoldable pub bookOf3 : List ℕ
+bookOf3 =
+    bookOf
+    (sections 2 3 (replicate 16 0) (recordOf (flowWith 1 0 6 1 1) ++ recordOf (flowWith 2 0 10 5 4) ++ recordOf (flowWith 3 0 20 20 1))
+    (0 ∷ 1 ∷ 0 ∷ 1 ∷ 0 ∷ 1 ∷ 0 ∷ 1 ∷ 0 ∷ 1 ∷ 0 ∷ 1 ∷ []))
 
 -- a book of more flows than nodes, the last of which sends 2-1; and a table that is full
 unfoldable pub bookOf4 : List ℕ
@@ -359,14 +366,23 @@ pub record Pins : Type 0 where
   -- P and D of flow 7 set to 7: bounds 3 and 5, where ceil((R + R_h) / P_h) would give 7; set to 6: 3 and 7, where ceil(R / P_h) would give 5
   pub carry-no-longer : checkOf (periodOf7 7) .bounds ≡ 3 ∷ 5 ∷ replicate 30 0
   pub carry-no-shorter : checkOf (periodOf7 6) .bounds ≡ 3 ∷ 7 ∷ replicate 30 0
+  -- each flow above is carried in up to its own bound: with that of the flow just above for all, or the largest, the last would have more
+  pub own-carry : checkOf bookOf3 .bounds ≡ 1 ∷ 5 ∷ 6 ∷ replicate 29 0
   -- BY THE DEADLINE COUNT flow 9 of book A has the bound 7, and with D of flow 7 at 7; at 6 it has the bound 5. With 1 in place of 2 for its
-  -- figure it has the bound 5. With its D at 6 it keeps a newcomer out that comes in by the fair count
+  -- figure it has the bound 5. With its D at 6 it keeps a newcomer out that comes in by the fair count,
+  -- and a run from being started. Each flow above is carried in up to its own deadline
   pub deadline-count : checkBy byDeadline bookA ≡ record { answer = done 0; bounds = 3 ∷ 7 ∷ replicate 30 0 }
   pub deadline-no-shorter : checkBy byDeadline (deadlineAt deadlineOf7 7 bookA) .bounds ≡ 3 ∷ 7 ∷ replicate 30 0
   pub deadline-no-longer : checkBy byDeadline (deadlineAt deadlineOf7 6 bookA) .bounds ≡ 3 ∷ 5 ∷ replicate 30 0
   pub deadline-kept : checkKeptBy keptByDeadline (withFigures tableA (oneFigure 1)) .bounds ≡ 3 ∷ 5 ∷ replicate 30 0
+  pub deadline-starting :
+      startBy byDeadline (record { book = deadlineAt deadlineOf9 6 bookA; area = lent 36 }) .answer
+      ∷ startOf (record { book = deadlineAt deadlineOf9 6 bookA; area = lent 36 }) .answer
+      ∷ []
+      ≡ refused 9 1 ∷ done 0 ∷ []
+  pub own-deadline : checkBy byDeadline bookOf3 .bounds ≡ 1 ∷ 5 ∷ 6 ∷ replicate 29 0
   pub deadline-adding : addBy byDeadline behindA .answer ∷ addOf behindA .answer ∷ [] ≡ refused 9 1 ∷ done 0 ∷ []
-  -- of a flow above with P 10 and D 5, one instance counts in 6 slots, and two in 7
+  -- of a flow above with P 10 that is carried in for 5 slots, one instance counts in 6 slots, and two in 7
   pub one-instance : instances 6 5 10 ≡ 1
   pub two-instances : instances 7 5 10 ≡ 2
   -- flow 3 of book B is released in slots 5 and 25, and not in slots 0, 4, 6, 12 and 20; its latest instance is 0 in slot 24 and 1 in slot

@@ -114,9 +114,9 @@ pub record TellsWhy (advance : Advancing → Advanced → Type 0) (ask : Asking 
       (λ a told. Done (answerOf told) → (told ≡ Told.Finished) ↔ (Released a × (stepsHad a (a .place) ≡ said (a .book) .len (a .place))))
   -- granted, exactly when advance grants that place;
   pub granted : Beside advance ask (λ a told advanced. (told ≡ Told.Granted) ↔ ((j : ℕ) × GrantsFlow a advanced (a .place) j))
-  -- waiting on h, exactly when it waits on h
+  -- waiting on h, exactly when h is the first that is granted there and conflicts with its step;
   pub waiting : Beside advance ask (λ a told advanced. (h : ℕ) → (told ≡ Told.WaitingOn h) ↔ WaitsOn a advanced h)
-  -- and a flow that waits has one to name
+  -- and one is always there to name
   pub named :
       Beside advance ask
       (λ a told advanced.

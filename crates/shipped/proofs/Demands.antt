@@ -11,8 +11,8 @@ use Rattle.promise.proofs.Tables.{one-table-one-book}
 use Rattle.promise.proofs.Fair.{no-worse}
 use Rattle.promise.proofs.Removal.{never-hurts}
 use Rattle.promise.proofs.Why.{tells-why}
-use Rattle.shipped.specs.Calls.{Advance, Why, shipped, forC}
-use Rattle.shipped.proofs.Meets.{advance-planned, why-planned, shipped-meets, for-c-meets}
+use Rattle.shipped.specs.Calls.{Advance, Why, SlotAdvance, SlotWhy, shipped, forC}
+use Rattle.shipped.proofs.Meets.{advance-planned, why-planned, slot-advance-planned, slot-why-planned, shipped-meets, for-c-meets}
 
 pub shipped-demand-1 : Demand1 shipped
 shipped-demand-1 = keeps-demand-1 shipped shipped-meets
@@ -56,3 +56,6 @@ for-c-never-hurts = never-hurts forC for-c-meets
 -- WHY A FLOW IS SILENT in a slot, or that it is not
 pub shipped-tells-why : TellsWhy Advance Why
 shipped-tells-why = tells-why advance-planned why-planned
+
+pub for-c-tells-why : TellsWhy SlotAdvance SlotWhy
+for-c-tells-why = tells-why slot-advance-planned slot-why-planned

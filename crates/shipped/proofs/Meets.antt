@@ -2,19 +2,22 @@
 use Prim.Native.Nat.{ℕ, _/_, _%_, _<_}
 use mathlib.Core.Path.{_≡_, sym, _∙_, ap}
 use mathlib.Core.List.{List}
+use denote.Ref.{now}
 use native.Mathlib.Omega.{arith}
 use Rattle.trade.specs.Limits.{packing}
 use Rattle.trade.specs.Answers.{packedOf}
 use Rattle.trade.specs.Bound.{measure}
 use Rattle.trade.specs.Slot.{greedy, releasesOf}
 use Rattle.trade.specs.Calls.{Checked, Starting, Started, Advancing, Advanced, readOf, checkOf, checkBy, checkKeptOf, writeOf, addOf, removeOf, startOf, startBy, advanceOf, advanceBy}
-use Rattle.trade.specs.Why.{askOf}
+use Rattle.trade.specs.Why.{Asking, askOf, answerOf}
 use Rattle.trade.specs.declared.answer.Answer.{Answer}
 use Rattle.trade.proofs.Numbers.{check-number, start-number, advance-number}
 use Rattle.promise.specs.Demands.{Always, planner}
 use Rattle.promise.specs.Promise.{Meets}
-use Rattle.promise.specs.Why.{asks}
-use Rattle.shipped.specs.Calls.{Read, Check, CheckTable, Write, Add, Remove, Start, Advance, Why, shipped, unpacked, SlotStart, SlotAdvance, forC, withRun, CheckedInC}
+use Rattle.promise.specs.Why.{asks, toldBy}
+use Rattle.promise.proofs.Asked.{tells, read-back}
+use Rattle.middleware.proofs.Numbers.{ask-number}
+use Rattle.shipped.specs.Calls.{Read, Check, CheckTable, Write, Add, Remove, Start, Advance, Why, shipped, unpacked, SlotStart, SlotAdvance, forC, withRun, CheckedInC, SlotWhy}
 
 -- THE EIGHT CALLS
 pub read-planned : Always Read (planner .read)
@@ -98,3 +101,11 @@ slot-advance-planned w given (κs, a, n, s, p, i, o) =
 
 pub for-c-meets : Meets forC
 for-c-meets = meets-with slot-check-planned slot-start-planned slot-advance-planned
+
+pub slot-why-planned : Always SlotWhy asks
+slot-why-planned i given (κs, a, n, s, p, e, o) =
+    let asked : Asking = record { book = now (a .0); area = now (a .1 .0); place = a .1 .1 .0 } in
+    o
+    ∙ ap toldBy (unpacked-packed n (answerOf (askOf asked)) (ask-number (now (a .0)) (now (a .1 .0)) (a .1 .1 .0)) (p .answer))
+    ∙ read-back (tells asked)
+    ∙ ap askOf (sym e)

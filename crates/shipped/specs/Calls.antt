@@ -13,6 +13,7 @@ use Rattle.trade.specs.declared.told.Told.{Told}
 use Rattle.trade.specs.Kept.{Tabled}
 use Rattle.table.specs.Table.{sectionsIn, keptIn}
 use Rattle.promise.specs.Demands.{Program}
+use Rattle.promise.specs.Why.{toldBy}
 use Rattle.table.proofs.table.read.Reads as read
 use Rattle.bounds.proofs.acceptance.check.Reads as check
 use Rattle.table.proofs.checked.check_table.Reads as check-table
@@ -25,6 +26,7 @@ use Rattle.why.proofs.told.why.Reads as why
 use Rattle.radio.proofs.slot_check.Reads as slot-check
 use Rattle.radio.proofs.slot_start.Reads as slot-start
 use Rattle.radio.proofs.slot_advance.Reads as slot-advance
+use Rattle.middleware.proofs.slot_why.Reads as slot-why
 
 -- THE EIGHT CALLS
 abbrev pub Read : List ℕ → Got → Type 0
@@ -126,3 +128,11 @@ CheckedInC b given = (n : ℕ) × SlotCheck b n × (given ≡ record { answer = 
 
 abbrev pub forC : Program
 forC = withRun CheckedInC SlotStart SlotAdvance
+
+-- and what `slot_why` tells, as it is read in its one number
+abbrev pub SlotWhy : Asking → Told → Type 0
+SlotWhy i given =
+    (κs : _) × (a : _) × (n : _) × (s : _)
+    × slot-why.Post κs a n s
+    × (i ≡ record { book = now (a .0); area = now (a .1 .0); place = a .1 .1 .0 })
+    × (given ≡ toldBy (unpacked n))

@@ -29,7 +29,7 @@ for file in "$archive" "$middleware" "$tables"; do
 done
 
 $rustc $flags $link --crate-type rlib --crate-name slot_host -o "$out/libslot_host.rlib" "$here/src/lib.rs"
-for program in cases compare monitor bench requests; do
+for program in cases compare monitor bench requests removal; do
     set -- --extern "slot_host=$out/libslot_host.rlib" -o "$out/$program" "$here/src/bin/$program.rs"
     for file in "$archive" "$middleware" "$tables"; do
         [ "$file" = - ] || set -- -C "link-arg=$file" "$@"

@@ -27,6 +27,7 @@ pub mod program;
 mod proved;
 #[cfg(tables)]
 mod proved_tables;
+pub mod removal;
 pub mod request;
 pub mod stack;
 pub mod tables;

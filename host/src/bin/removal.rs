@@ -1,4 +1,5 @@
-//! Takes the flow at every place out of accepted tables, on `plain` and on the proved calls, and judges that nothing is hurt.
+//! Takes the flow at every place out of accepted tables, on `plain` and on the proved calls, and judges that nothing is hurt. Before that,
+//! every spoiled claim and call has to be seen.
 //!
 //!     removal [--tables N] [--slots N] [--seed S]
 //!     removal again BOOK PLACE [--slots N]            one removal, from the words of a finding
@@ -10,6 +11,7 @@ use slot_host::options::Options;
 use slot_host::plain::table::read;
 use slot_host::removal::claim::NEVER_HURTS;
 use slot_host::removal::met::Met;
+use slot_host::removal::spoiled::{Spoiled, SPOILED};
 use slot_host::removal::tables::of_round;
 use slot_host::removal::{each_place, proved, Calls, Removal, PLAIN};
 use std::process::ExitCode;
@@ -17,8 +19,9 @@ use std::process::ExitCode;
 const TABLES: u64 = 2_000;
 /// How many of the first slots of the two runs are compared.
 const SLOTS: u64 = 60;
-/// How many tables are asked about at a time.
+/// How many tables are asked about at a time, and of a spoiled claim or call.
 const BATCH: usize = 200;
+const SMALL_BATCH: usize = 10;
 
 fn main() -> ExitCode {
     let mut options = Options::from_args();
@@ -29,7 +32,7 @@ fn main() -> ExitCode {
     } else {
         options.finish();
         println!("{tables} tables, the first {slots} slots of each run, seed {seed}");
-        all_calls().iter().try_for_each(|calls| take_out(calls, tables, slots, seed))
+        teeth(slots, seed).and_then(|()| all_calls().iter().try_for_each(|calls| take_out(calls, tables, slots, seed)))
     };
     match outcome {
         Ok(()) => ExitCode::SUCCESS,
@@ -43,6 +46,26 @@ fn main() -> ExitCode {
 /// All that there are in this build.
 fn all_calls() -> Vec<Calls> {
     [Some(PLAIN), proved()].into_iter().flatten().collect()
+}
+
+/// Every one that is spoiled has to be seen, by the point that it breaks.
+fn teeth(slots: usize, seed: u64) -> Result<(), String> {
+    for Spoiled { what, claim, calls, seen_by } in &SPOILED {
+        let mut seen = None;
+        batches(TABLES, SMALL_BATCH, seed, |batch| {
+            each_place(calls, batch, slots, |removal| {
+                let finding = claim.judge(removal).err().filter(|finding| finding.point == *seen_by);
+                seen = seen.take().or(finding);
+                Ok(())
+            })?;
+            Ok(seen.is_none())
+        })?;
+        match seen {
+            Some(finding) => println!("spoiled: {what}: seen, {finding}"),
+            None => return Err(format!("spoiled: {what}: NOT SEEN")),
+        }
+    }
+    Ok(())
 }
 
 fn take_out(calls: &Calls, tables: u64, slots: usize, seed: u64) -> Result<(), String> {

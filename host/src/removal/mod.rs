@@ -4,6 +4,7 @@
 pub mod claim;
 pub mod look;
 pub mod met;
+pub mod spoiled;
 pub mod tables;
 
 use crate::memory::Table;

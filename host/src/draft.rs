@@ -96,3 +96,20 @@ pub fn book_b() -> Draft {
         ],
     }
 }
+
+/// Three flows along a line of four nodes, none of which disturbs another: the first keeps the second waiting and the second the third,
+/// while the first and the third may go at once. Deadlines are at their bounds.
+pub fn chain() -> Draft {
+    let flow = |id, deadline, plan| DraftFlow { id, phase: 0, period: 10, deadline, plan };
+    Draft {
+        rows: vec![0; 4],
+        flows: vec![flow(1, 1, vec![(0, 1)]), flow(2, 2, vec![(1, 2)]), flow(3, 2, vec![(2, 3)])],
+    }
+}
+
+/// The chain without its first flow.
+pub fn rest_of_chain() -> Draft {
+    let mut rest = chain();
+    rest.flows.remove(0);
+    rest
+}

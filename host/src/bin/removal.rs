@@ -13,7 +13,7 @@ use slot_host::removal::claim::NEVER_HURTS;
 use slot_host::removal::met::Met;
 use slot_host::removal::spoiled::{Spoiled, SPOILED};
 use slot_host::removal::tables::of_round;
-use slot_host::removal::{each_place, proved, Calls, Removal, PLAIN};
+use slot_host::removal::{chain, each_place, proved, Calls, Removal, PLAIN};
 use std::process::ExitCode;
 
 const TABLES: u64 = 2_000;
@@ -70,6 +70,7 @@ fn teeth(slots: usize, seed: u64) -> Result<(), String> {
 
 fn take_out(calls: &Calls, tables: u64, slots: usize, seed: u64) -> Result<(), String> {
     let told = |what: String| format!("{}: {what}", calls.name);
+    chain::shown(calls).map_err(|what| told(format!("the chain: {what}")))?;
     let mut met = Met::default();
     batches(tables, BATCH, seed, |batch| {
         each_place(calls, batch, slots, |removal| judge(removal).map(|()| met.count(removal))).map(|()| true)

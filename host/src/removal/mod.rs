@@ -1,6 +1,7 @@
 //! Taking a flow out never hurts: of an accepted table and each of its places, remove is done and what is left is accepted; no bound has
 //! risen; and the flows above the place have the same grants. It is judged by what the calls say of the table and of what is left.
 
+pub mod chain;
 pub mod claim;
 pub mod look;
 pub mod met;

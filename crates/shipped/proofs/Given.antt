@@ -8,11 +8,11 @@ use Rattle.trade.specs.Layout.{Sections}
 use Rattle.trade.specs.Kept.{Tabled}
 use Rattle.trade.specs.Answers.{packedOf}
 use Rattle.trade.specs.Calls.{Checked, Started, Advanced, Writing, Adding, Removing, Starting, Advancing, readOf, checkOf, checkKeptOf, writeOf, addOf, removeOf, startOf, advanceOf}
-use Rattle.trade.specs.Why.{Asking, askOf}
+use Rattle.trade.specs.Why.{Asking, askOf, answerOf}
 use Rattle.trade.specs.declared.told.Told.{Told}
 use Rattle.table.specs.declared.table.Table.{Table}
 use Rattle.promise.specs.Demands.{Answers}
-use Rattle.shipped.specs.Calls.{Read, Check, CheckTable, Write, Add, Remove, Start, Advance, Why, SlotCheck, shipped, forC, withRun}
+use Rattle.shipped.specs.Calls.{Read, Check, CheckTable, Write, Add, Remove, Start, Advance, Why, SlotCheck, SlotWhy, shipped, forC, withRun}
 
 -- a list that is lent, and a table of counts and sections
 lent : List ℕ → RefT (List ℕ)
@@ -101,6 +101,11 @@ module _ (κ : Lft) where
 
   pub shipped-answers-why : (i : Asking) → (given : Told) × Why i given
   shipped-answers-why i = (askOf i, why-given i)
+
+  pub for-c-answers-why : (i : Asking) → (given : Told) × SlotWhy i given
+  unfolding lent
+  for-c-answers-why i =
+      (_, ((κ, (κ, tt)), (lent (i .book), (lent (i .area), (i .place, tt))), packedOf (answerOf (askOf i)), (lent (i .book), (lent (i .area), (i .place, tt))), record { answer = refl }, refl, refl))
 
   pub for-c-answers : Answers forC
   unfolding lent

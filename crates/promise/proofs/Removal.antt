@@ -33,7 +33,7 @@ use Rattle.trade.proofs.RoundTrip.{nineBy, book-said, kept-right, kept-then-che
 use Rattle.trade.proofs.Kept.{figures-at}
 use Rattle.trade.proofs.Slot.{going-below, grants-append, length-grants}
 use Rattle.trade.proofs.Prefix.{greedy-local, Behind, going-behind, prefix-runs}
-use Rattle.trade.proofs.Taken.{out-most}
+use Rattle.trade.proofs.Taken.{was-listed}
 use Rattle.trade.proofs.TakenRules.{alike-above}
 use Rattle.trade.proofs.Removed.{holds, taken, after-passed, bound-removed, remove-done, left-facts}
 use Rattle.promise.specs.Demands.{Program, planner, Done, Ran, RunBy, grantAt, stepGrant, reported}
@@ -84,16 +84,13 @@ module _
     unfolding code9By
     had l h = boundless-false before (measure before) l (givenFirst-passed 8 _ (before .flows) used-nine l h)
 
-    was-there : (l : ℕ) → l < after .flows → beforeOut (r .place) l < before .flows
-    was-there l h = omega (arith, taken r m formed there .flows, out-most (r .place) l)
-
     -- and has one still
     has : (l : ℕ) → l < after .flows → boundBy after (measure after) l ≤ after .deadline l
     has l h =
         omega (
           arith,
           bound-removed r m formed there l h,
-          had (beforeOut (r .place) l) (was-there l h),
+          had (beforeOut (r .place) l) (was-listed (r .place) after before (taken r m formed there) l h),
           taken r m formed there .deadline l h,
         )
 
@@ -138,7 +135,7 @@ module _
     no-higher : (l : ℕ) → l < left .flows → getD (boundsOf after) l 0 ≤ reported (checkKeptOf (r .table)) (beforeOut (r .place) l)
     no-higher l h =
         let l< : l < after .flows = rw (← left-flows) h in
-        rw (listed-bound after (measure after) l l<, reported-old (beforeOut (r .place) l) (was-there l l<)) (bound-removed r m formed there l l<)
+        rw (listed-bound after (measure after) l l<, reported-old (beforeOut (r .place) l) (was-listed (r .place) after before (taken r m formed there) l l<)) (bound-removed r m formed there l l<)
 
 -- 3, of two runs of accepted books that are alike on the flows above a place
 module _ (x : Ran) (g : AcceptedRun measure greedy x) (place : ℕ) (within : place ≤ facts x .flows) (t : Slot) (called : t .0 < x .count) (clock : t .0 < endOfClock) where

@@ -68,6 +68,10 @@ pub record TakenOut (place : ℕ) (f g : Facts) : Type 0 where
   pub deadline : (i : ℕ) → i < f .flows → f .deadline i ≡ g .deadline (beforeOut place i)
   pub plan : (i : ℕ) → i < f .flows → SamePlan f g i (beforeOut place i)
 
+-- a flow that is left was one of them
+pub was-listed : (place : ℕ) (f g : Facts) → TakenOut place f g → (i : ℕ) → i < f .flows → beforeOut place i < g .flows
+was-listed place f g t i l = omega (arith, t .flows, out-most place i)
+
 -- the interference of two flows that are left is what it was
 pub interference-out :
     (place : ℕ) (f g : Facts)
@@ -81,9 +85,6 @@ interference-out place f g t l h p q = interference-moved f g (t .disturbs) l h 
 module _ (place : ℕ) (f g : Facts) (t : TakenOut place f g) (periods : (i : ℕ) → i < g .flows → 1 ≤ g .period i) where
   abbrev was : ℕ → ℕ
   was i = beforeOut place i
-
-  was-there : (i : ℕ) → i < f .flows → was i < g .flows
-  was-there i l = omega (arith, t .flows, out-most place i)
 
   -- THE BOUNDS: by any two measures, where no pair that is left costs more than it did and none is carried in longer
   module _
@@ -104,7 +105,7 @@ module _ (place : ℕ) (f g : Facts) (t : TakenOut place f g) (periods : (i : �
             sum-mono (λ h. instances R (μ .carry h) (f .period h) * μ .cost l h) (λ h. term R (was h)) l
                 (λ h p.
                 term-mono R (μ .carry h) (ν .carry (was h)) (f .period h) (g .period (was h)) (μ .cost l h) (ν .cost (was l) (was h))
-                (periods (was h) (was-there h (omega arith))) (omega (arith, t .period h (omega arith))) (carries h p) (costs h p)),
+                (periods (was h) (was-listed place f g t h (omega arith))) (omega (arith, t .period h (omega arith))) (carries h p) (costs h p)),
             some-of (term R) place l,
           ))
 

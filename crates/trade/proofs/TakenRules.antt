@@ -18,7 +18,7 @@ use Rattle.trade.proofs.Sums.{sum-next, sum-le}
 use Rattle.trade.proofs.Answers.{givenFirst-passed, givenFirst-none, givenFirst-same}
 use Rattle.trade.proofs.Valid.{Sound, sound-passes, Valid, code3-passes}
 use Rattle.trade.proofs.Alike.{Alike}
-use Rattle.trade.proofs.Taken.{TakenOut, out-below, out-order, out-most}
+use Rattle.trade.proofs.Taken.{TakenOut, was-listed, out-below, out-order}
 
 -- where the same nodes disturb each other, steps that are the same meet alike
 meets-alike : (f g : Facts) → f .disturbs ≡ g .disturbs → (l h i j : ℕ) → stepOf f l i ≡ stepOf g l i → stepOf f h j ≡ stepOf g h j → matrix f l h i j ≡ matrix g l h i j
@@ -48,9 +48,6 @@ module _ (place : ℕ) (f g : Facts) (t : TakenOut place f g) where
   abbrev was : ℕ → ℕ
   was i = beforeOut place i
 
-  was-there : (i : ℕ) → i < f .flows → was i < g .flows
-  was-there i l = omega (arith, t .flows, out-most place i)
-
   -- code 3
   pub three-passes : Valid g → code3 f .code ≡ 0
   three-passes v = code3-passes f (rw (t .nodes) (v .nodes)) (record { least = omega arith; most = omega (arith, v .flows, t .flows) })
@@ -64,7 +61,7 @@ module _ (place : ℕ) (f g : Facts) (t : TakenOut place f g) where
   -- code 6: the ids of those above are ids of those that were
   pub sound-out : Valid g → (i : ℕ) → i < f .flows → Sound f i
   sound-out v i h =
-      let s = v .records (was i) (was-there i h) in
+      let s = v .records (was i) (was-listed place f g t i h) in
       record {
         id = rw (t .id i h) (s .id);
         new = λ j l e. s .new (was j) (out-order place j i l) (sym (t .id j (omega arith)) ∙ e ∙ t .id i h);
@@ -91,7 +88,7 @@ module _ (place : ℕ) (f g : Facts) (t : TakenOut place f g) where
           arith,
           t .plan i i< .len,
           sum-next (g .len) (was i),
-          sum-le (g .len) (suc (was i)) (g .flows) (was-there i i<),
+          sum-le (g .len) (suc (was i)) (g .flows) (was-listed place f g t i i<),
         )
 
     stood-good : badStep g stood ≡ false

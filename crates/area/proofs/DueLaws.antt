@@ -6,9 +6,9 @@ use mathlib.Core.Bool.{Bool, true, false, ◌&&◌, ◌||◌}
 use mathlib.Core.List.{List, []}
 use native.Mathlib.Omega.{arith}
 use lib.Dec.{eqb, leb, ltb}
-use lib.ListN.{length, get_or, set, length_set, replicate}
+use lib.ListN.{length, get_or, set, length-set, replicate}
 use borrow.Author.Count.{below_more}
-use borrow.Author.Tests.{lt_ltb, ltb_false}
+use borrow.Author.Tests.{lt-ltb, ltb-false}
 use Rattle.trade.specs.Limits.{most_flows, last_slot}
 use Rattle.trade.specs.Answers.{done}
 use Rattle.trade.specs.Layout.{field}
@@ -90,7 +90,7 @@ module _ (flows : ℕ) (records : List ℕ) (run : Run) where
 
       good_now : bad ≡ false → bad_place facts due state i ≡ false
       unfolding bad_place bad_at state_of place_of facts_of flow_in
-      good_now e = rw (lt_ltb i flows taken, ← so.ahead i (omega arith)) (rw own at e)
+      good_now e = rw (lt-ltb i flows taken, ← so.ahead i (omega arith)) (rw own at e)
 
       -- its first release is kept
       firsts_next : (k : ℕ) → k < i + 1 → slot_in (set firsts i first) k ≡ field records k 1
@@ -103,7 +103,7 @@ module _ (flows : ℕ) (records : List ℕ) (run : Run) where
       others_next k h = slot_unstored firsts i k first (λ e. omega arith) ∙ so.others k (omega arith)
 
       room_next : length (set firsts i first) ≡ most_flows
-      room_next = length_set firsts i first ∙ so.room
+      room_next = length-set firsts i first ∙ so.room
 
       -- it stays as it is,
       pub seen_stays : released_now ≡ false → Seen before (i + 1) places (set firsts i first) (doubt || bad)
@@ -131,7 +131,7 @@ module _ (flows : ℕ) (records : List ℕ) (run : Run) where
       unfolding done_now overrun state_of place_of facts_of flow_in
       seen_released d room =
           record {
-            size = length_set places i (idle_of 0) ∙ so.size;
+            size = length-set places i (idle_of 0) ∙ so.size;
             room = room_next;
             phases = firsts_next;
             others = others_next;
@@ -158,7 +158,7 @@ module _ (flows : ℕ) (records : List ℕ) (run : Run) where
   seen_clear stray places firsts doubt so unused e =
       let (early, all) = so.clear e in
       let (soon, straight) = or_false (ltb last_slot run.slot.0) stray early in
-      run_clear facts due state (ltb_false last_slot run.slot.0 soon) (λ k h. (all k h).0) (unused straight) (λ k h. (all k h).1)
+      run_clear facts due state (ltb-false last_slot run.slot.0 soon) (λ k h. (all k h).0) (unused straight) (λ k h. (all k h).1)
 
   -- and what is due is known
   module _ (before : Bool) (places : List Progress) (firsts : List Slot) (doubt : Bool) (so : Seen before flows places firsts doubt) where

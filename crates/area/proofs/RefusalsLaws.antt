@@ -8,7 +8,7 @@ use mathlib.Core.List.{List, []}
 use native.Mathlib.Omega.{arith}
 use lib.Dec.{eqb, ltb}
 use lib.ListN.{get_or}
-use borrow.Author.Tests.{lt_ltb, le_ltb, ltb_true, ltb_false, eq_eqb, ne_eqb, eqb_true, eqb_false, not_false}
+use borrow.Author.Tests.{lt-ltb, le-ltb, ltb-true, ltb-false, eq-eqb, ne_eqb, eqb-true, eqb-false, not-false}
 use Rattle.trade.specs.Limits.{most_flows, last_slot, end_of_clock}
 use Rattle.trade.specs.Facts.{Facts, facts_of, facts_in, flow_in}
 use Rattle.trade.specs.Run.{idle_of}
@@ -28,16 +28,16 @@ use Rattle.area.specs.Dues.{due_by}
 module _ (f : Facts) (r : Releases) (s : State) where
   pub code10_late : end_of_clock < s.slot → code10 f r s ≡ refused 10 0
   unfolding code10
-  code10_late h = rw (lt_ltb end_of_clock s.slot h)
+  code10_late h = rw (lt-ltb end_of_clock s.slot h)
 
   pub code10_at :
       (i : ℕ) → s.slot ≤ end_of_clock → i < most_flows → ((j : ℕ) → j < i → bad_place f r s j ≡ false) → bad_place f r s i ≡ true → code10 f r s ≡ refused 10 i
   unfolding code10
-  code10_at i h l before bad = rw (le_ltb end_of_clock s.slot h) (given_first_at 10 (bad_place f r s) most_flows i l before bad)
+  code10_at i h l before bad = rw (le-ltb end_of_clock s.slot h) (given_first_at 10 (bad_place f r s) most_flows i l before bad)
 
   pub code10_none : s.slot ≤ end_of_clock → ((j : ℕ) → j < most_flows → bad_place f r s j ≡ false) → code10 f r s ≡ done 0
   unfolding code10
-  code10_none h none = rw (le_ltb end_of_clock s.slot h) (given_first_none 10 (bad_place f r s) most_flows none)
+  code10_none h none = rw (le-ltb end_of_clock s.slot h) (given_first_none 10 (bad_place f r s) most_flows none)
 
   pub code11_at :
       (i : ℕ) → i < f.flows → ((j : ℕ) → j < i → overrun f r s j ≡ false) → overrun f r s i ≡ true → code11 f r s ≡ refused 11 i
@@ -71,11 +71,11 @@ module _ (f : Facts) (r : Releases) (s : State) where
 
   pub run_ended : (code10 f r s).code ≡ 0 → s.slot ≡ end_of_clock → run_answer f r s ≡ refused 12 0
   unfolding run_answer is_done code12 given
-  run_ended e h = rw (eq_eqb (code10 f r s).code 0 e, eq_eqb s.slot end_of_clock h)
+  run_ended e h = rw (eq-eqb (code10 f r s).code 0 e, eq-eqb s.slot end_of_clock h)
 
   pub run_overrun : (code10 f r s).code ≡ 0 → (s.slot ≡ end_of_clock → ⊥) → run_answer f r s ≡ code11 f r s
   unfolding run_answer is_done code12 given
-  run_overrun e n = rw (eq_eqb (code10 f r s).code 0 e, ne_eqb s.slot end_of_clock n)
+  run_overrun e n = rw (eq-eqb (code10 f r s).code 0 e, ne_eqb s.slot end_of_clock n)
 
   -- what a run that passes all three has passed
   pub run_passed : (run_answer f r s).code ≡ 0 → ((code10 f r s).code ≡ 0) × ((code12 s).code ≡ 0)
@@ -83,12 +83,12 @@ module _ (f : Facts) (r : Releases) (s : State) where
   run_passed e =
       ⊎_elim
       (λ (d : eqb (code10 f r s).code 0 ≡ true).
-      ⊎_elim (λ (n : eqb (code12 s).code 0 ≡ true). (eqb_true (code10 f r s).code 0 d, eqb_true (code12 s).code 0 n))
+      ⊎_elim (λ (n : eqb (code12 s).code 0 ≡ true). (eqb-true (code10 f r s).code 0 d, eqb-true (code12 s).code 0 n))
       (λ (n : eqb (code12 s).code 0 ≡ false).
-      absurd (eqb_false (code12 s).code 0 n (sym (ap (λ (x : Answer). x.code) (ended d n)) ∙ e)))
+      absurd (eqb-false (code12 s).code 0 n (sym (ap (λ (x : Answer). x.code) (ended d n)) ∙ e)))
       (bool_cases (eqb (code12 s).code 0)))
       (λ (d : eqb (code10 f r s).code 0 ≡ false).
-      let n = eqb_false (code10 f r s).code 0 d in absurd (n (sym (ap (λ (x : Answer). x.code) (run_malformed n)) ∙ e)))
+      let n = eqb-false (code10 f r s).code 0 d in absurd (n (sym (ap (λ (x : Answer). x.code) (run_malformed n)) ∙ e)))
       (bool_cases (eqb (code10 f r s).code 0))
     where
       ended : eqb (code10 f r s).code 0 ≡ true → eqb (code12 s).code 0 ≡ false → run_answer f r s ≡ code12 s
@@ -99,12 +99,12 @@ module _ (f : Facts) (r : Releases) (s : State) where
   slot_runs e =
       let (ten, twelve) = run_passed e in
       let early : ltb end_of_clock s.slot ≡ false = not_late ten in
-      omega (arith, ltb_false end_of_clock s.slot early, eqb_false s.slot end_of_clock (given_passed 11 _ 0 twelve))
+      omega (arith, ltb-false end_of_clock s.slot early, eqb-false s.slot end_of_clock (given_passed 11 _ 0 twelve))
     where
       not_late : (code10 f r s).code ≡ 0 → ltb end_of_clock s.slot ≡ false
       not_late z =
           ⊎_elim
-          (λ (h : ltb end_of_clock s.slot ≡ true). absurd (omega (arith, sym (ap (λ (x : Answer). x.code) (code10_late f r s (ltb_true end_of_clock s.slot h))) ∙ z)))
+          (λ (h : ltb end_of_clock s.slot ≡ true). absurd (omega (arith, sym (ap (λ (x : Answer). x.code) (code10_late f r s (ltb-true end_of_clock s.slot h))) ∙ z)))
           (λ h. h)
           (bool_cases (ltb end_of_clock s.slot))
 
@@ -113,11 +113,11 @@ module _ (f : Facts) (r : Releases) (s : State) where
   unfolding code10
   places_good e =
       given_first_passed 9 (bad_place f r s) most_flows
-      (rw (le_ltb end_of_clock s.slot (omega (arith, slot_runs e))) at (run_passed e).0)
+      (rw (le-ltb end_of_clock s.slot (omega (arith, slot_runs e))) at (run_passed e).0)
 
   pub unused_zero : (run_answer f r s).code ≡ 0 → (i : ℕ) → i < most_flows → f.flows ≤ i → s.done i ≡ 0
   unfolding bad_place
-  unused_zero e i h l = eqb_true (s.done i) 0 (not_false _ (rw (le_ltb i f.flows l) at (places_good e i h)))
+  unused_zero e i h l = eqb-true (s.done i) 0 (not-false _ (rw (le-ltb i f.flows l) at (places_good e i h)))
 
   -- a run that no flow and no unused place gives a reason to refuse, in a slot that runs, passes all three
   pub run_clear :
@@ -133,7 +133,7 @@ module _ (f : Facts) (r : Releases) (s : State) where
       places : (i : ℕ) → i < most_flows → bad_place f r s i ≡ false
       places i h =
           ⊎_elim (good i)
-          (λ (l : f.flows ≤ i). rw (le_ltb i f.flows l, eq_eqb (s.done i) 0 (unused i l h)))
+          (λ (l : f.flows ≤ i). rw (le-ltb i f.flows l, eq-eqb (s.done i) 0 (unused i l h)))
           (lt_or_ge i f.flows)
 
 -- releases that say the same of each flow refuse a run alike
@@ -141,7 +141,7 @@ module _ (f : Facts) (r q : Releases) (s : State) (begun : (i : ℕ) → i < f.f
   bad_same : (i : ℕ) → bad_place f r s i ≡ bad_place f q s i
   unfolding bad_place
   bad_same i =
-      ⊎_elim (λ (l : i < f.flows). rw (lt_ltb i f.flows l, begun i l)) (λ (l : f.flows ≤ i). rw (le_ltb i f.flows l)) (lt_or_ge i f.flows)
+      ⊎_elim (λ (l : i < f.flows). rw (lt-ltb i f.flows l, begun i l)) (λ (l : f.flows ≤ i). rw (le-ltb i f.flows l)) (lt_or_ge i f.flows)
 
   ten_same : code10 f r s ≡ code10 f q s
   unfolding code10

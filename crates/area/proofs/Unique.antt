@@ -4,7 +4,7 @@ use Prim.Native.Nat.{ℕ, ◌≤◌, ◌<◌}
 use mathlib.Core.Path.{◌≡◌, sym, ◌∙◌, ap}
 use mathlib.Core.Logic.{⊎_elim}
 use native.Mathlib.Omega.{arith}
-use lib.ListN.{get_or_eq_default}
+use lib.ListN.{get_or-eq_default}
 use Rattle.trade.specs.Limits.{most_flows}
 use Rattle.trade.specs.Facts.{Facts}
 use Rattle.trade.specs.Run.{idle_of}
@@ -30,7 +30,7 @@ read_run_unique κs a r r' s s' p q =
     (λ i. ⊎_elim (λ (h : i < most_flows). one_result (p.places i h) (q.places i h)) (λ (h : most_flows ≤ i). past i h) (lt_or_ge i most_flows))
   where
     past : (i : ℕ) → most_flows ≤ i → place_of r.flows i ≡ place_of r'.flows i
-    past i h = ap (λ (x : Progress). x.done.0) (get_or_eq_default r.flows (idle_of 0) (omega (arith, p.size)) ∙ sym (get_or_eq_default r'.flows (idle_of 0) (omega (arith, q.size))))
+    past i h = ap (λ (x : Progress). x.done.0) (get_or-eq_default r.flows (idle_of 0) (omega (arith, p.size)) ∙ sym (get_or-eq_default r'.flows (idle_of 0) (omega (arith, q.size))))
 
 pub write_run_unique : (κs : _) (a : _) (r r' : _) (s s' : _) → write_run.Post κs a r s → write_run.Post κs a r' s' → s.0.now ≡ s'.0.now
 write_run_unique κs a r r' s s' p q = one_result p q

@@ -5,7 +5,7 @@ use mathlib.Core.Path.{◌≡◌, refl, sym, ◌∙◌, ap}
 use mathlib.Core.List.{List}
 use native.Mathlib.Omega.{arith}
 use lib.ListN.{length}
-use borrow.Author.Tests.{eq_eqb}
+use borrow.Author.Tests.{eq-eqb}
 use Rattle.trade.specs.Layout.{trailer, sections_of}
 use Rattle.trade.specs.Facts.{facts_of, said}
 use Rattle.trade.specs.Table.{rows_room, records_room, steps_room}
@@ -57,7 +57,7 @@ pub open_frame : (b : List ℕ) (o : Opened) → o ≡ opened_of b → o.answer.
 unfolding opened_of is_done
 open_frame b o e z =
     let done : (read_answer b).code ≡ 0 = sym (ap (λ (p : Opened). p.answer.code) e) ∙ z in
-    (done, ap (λ (p : Opened). p.frame) e ∙ rw (eq_eqb (read_answer b).code 0 done))
+    (done, ap (λ (p : Opened). p.frame) e ∙ rw (eq-eqb (read_answer b).code 0 done))
 
 -- the sections of a book that passes codes 1 to 8
 pub book_formed : (b : List ℕ) → (read_answer b).code ≡ 0 → Formed (sections_of b).flows (sections_of b).rows (sections_of b).records (sections_of b).steps

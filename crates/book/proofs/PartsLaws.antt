@@ -6,9 +6,9 @@ use mathlib.Core.Bool.{Bool, true, false, cond, not, ◌||◌}
 use mathlib.Core.List.{List, []}
 use native.Mathlib.Omega.{arith}
 use lib.Dec.{ltb}
-use lib.ListN.{length, take, drop, length_take, length_drop}
-use native.Mathlib.Nat.{min_eq_left}
-use borrow.Author.Tests.{eqb_true, eq_eqb, ne_eqb, ltb_false, lt_ltb, le_ltb, not_false}
+use lib.ListN.{length, take, drop, length-take, length-drop}
+use native.Mathlib.Nat.{min-eq_left}
+use borrow.Author.Tests.{eqb-true, eq-eqb, ne_eqb, ltb-false, lt-ltb, le-ltb, not-false}
 use Rattle.trade.specs.Limits.{most_nodes, most_flows, row_bytes, record_bytes, step_bytes, trailer_bytes}
 use Rattle.trade.specs.Bytes.{part}
 use Rattle.trade.specs.Layout.{trailer, rows_distance, records_distance, steps_distance, node_count, flow_count, field, sections_of}
@@ -57,7 +57,7 @@ module _ (slice : List ℕ) (f : Frame) (l : Lies slice f) where
 
   -- the sections are as long as the counts say
   length_between : (a b : ℕ) → a ≤ b → b ≤ length slice → length (take (b - a) (drop a slice)) ≡ b - a
-  length_between a b h k = rw (length_take, length_drop) (min_eq_left (omega arith))
+  length_between a b h k = rw (length-take, length-drop) (min-eq_left (omega arith))
 
   pub length_rows : length (sections_of slice).rows ≡ row_bytes * f.nodes
   length_rows = sym (ap length rows_lie) ∙ length_between f.rows f.records (omega (arith, l.rows)) (omega (arith, l.records, l.steps, l.end)) ∙ omega (arith, l.rows)
@@ -94,7 +94,7 @@ module _ (slice : List ℕ) (f : Frame) (l : Lies slice f) where
   unfolding code7 steps_distance_of all_steps first_step facts_of
   code7_passes e =
       given_false 7 _ 0
-      (rw (eq_eqb (steps_distance slice) (step_bytes * sum_to (λ i. field (sections_of slice).records i 4) (sections_of slice).flows + trailer_bytes) (rw (← counts.1, e) distance)))
+      (rw (eq-eqb (steps_distance slice) (step_bytes * sum_to (λ i. field (sections_of slice).records i 4) (sections_of slice).flows + trailer_bytes) (rw (← counts.1, e) distance)))
 
   pub code7_refuses : (step_bytes * sum_to (λ i. field (sections_of slice).records i 4) f.flows ≡ length (sections_of slice).steps → ⊥) → code7 slice ≡ refused 7 0
   unfolding code7 steps_distance_of all_steps first_step facts_of
@@ -109,13 +109,13 @@ opened_refused slice a e n = rw (e, ne_eqb a.code 0 n)
 
 pub opened_done : (slice : List ℕ) (a : Answer) → read_answer slice ≡ a → a.code ≡ 0 → opened_of slice ≡ record { answer = a; frame = frame_of slice }
 unfolding opened_of is_done
-opened_done slice a e z = rw (e, eq_eqb a.code 0 z)
+opened_done slice a e z = rw (e, eq-eqb a.code 0 z)
 
 -- a slice of under ten bytes is refused with 1
 pub too_short : (slice : List ℕ) → length slice < trailer_bytes → read_answer slice ≡ refused 1 0
 unfolding read_answer book_rules code1
 too_short slice h =
-    let e = given_true 1 (ltb (length slice) trailer_bytes) 0 (lt_ltb _ _ h) in
+    let e = given_true 1 (ltb (length slice) trailer_bytes) 0 (lt-ltb _ _ h) in
     first_of_refuse _ _ no_number slice (λ z. let o : ◌≡◌ {A = ℕ} 1 0 = sym (ap (λ (r : Answer). r.code) e) ∙ z in omega arith) ∙ e
 
 -- three rules in a row, by their tests
@@ -140,7 +140,7 @@ pub by_trailer :
     ≡ cond (is_done (trailer_answer (trailer_in (trailer slice)) (length slice))) (first_of section_rules no_number slice) (trailer_answer (trailer_in (trailer slice)) (length slice))
 unfolding read_answer book_rules section_rules code1 code2 code3 code4 trailer_answer trailer_in astray chain rows_distance records_distance steps_distance node_count flow_count said facts_of sections_of
 by_trailer slice h =
-    let one = given_false 1 (ltb (length slice) trailer_bytes) 0 (le_ltb _ _ h) in
+    let one = given_false 1 (ltb (length slice) trailer_bytes) 0 (le-ltb _ _ h) in
     first_of_pass _ _ no_number slice (ap (λ (r : Answer). r.code) one)
     ∙ first_of_rule code2 _ no_number slice
     ∙ ap (λ (w : Answer). cond (is_done (code2 slice)) w (code2 slice))
@@ -158,7 +158,7 @@ trailer_refused slice h n = by_trailer slice h ∙ rw (ne_eqb _ 0 n)
 
 pub trailer_passed : (slice : List ℕ) → trailer_bytes ≤ length slice → (trailer_answer (trailer_in (trailer slice)) (length slice)).code ≡ 0 → read_answer slice ≡ first_of section_rules no_number slice
 unfolding is_done
-trailer_passed slice h e = by_trailer slice h ∙ rw (eq_eqb _ 0 e)
+trailer_passed slice h e = by_trailer slice h ∙ rw (eq-eqb _ 0 e)
 
 -- the tests that a chain of three that is done has passed
 chain_done : (m o a : Bool) → (chain m o a).code ≡ 0 → (o ≡ false) × (a ≡ false)
@@ -193,10 +193,10 @@ in_order t len e =
     record {
       nodes = (inside 1 most_nodes t.nodes o.0).1;
       flows = (inside 0 most_flows t.flows o.1).1;
-      rows = eqb_true _ _ (not_false _ s.0);
-      records = eqb_true _ _ (not_false _ s.1);
-      steps = ltb_false _ _ r.1;
-      within = ltb_false _ _ p.1;
+      rows = eqb-true _ _ (not-false _ s.0);
+      records = eqb-true _ _ (not-false _ s.1);
+      steps = ltb-false _ _ r.1;
+      within = ltb-false _ _ p.1;
     }
 
 -- so the parts lie where it says

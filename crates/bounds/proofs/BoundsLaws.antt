@@ -9,7 +9,7 @@ use borrow.Author.Count.{below_more}
 use lib.ListN.{get_or, set, replicate}
 use Rattle.trade.specs.Limits.{most_flows, most_period}
 use Rattle.figures.proofs.Padded.{filled, filled_none, filled_more, filled_at}
-use borrow.Author.Tests.{le_leb, lt_leb}
+use borrow.Author.Tests.{le-leb, lt-leb}
 use Rattle.trade.specs.Facts.{Facts}
 use Rattle.trade.specs.Bound.{Measure, measure, bound_by, boundless_by, code9_by}
 use Rattle.trade.specs.Answers.{done, refused, is_done}
@@ -23,11 +23,11 @@ use Rattle.bounds.specs.Bounds.{refused_by, bounded_in, bounded_by}
 -- a bound above the deadline is none, by any measure
 pub boundless_over : (f : Facts) (μ : Measure) (l : ℕ) → f.deadline l < bound_by f μ l → boundless_by f μ l ≡ true
 unfolding boundless_by
-boundless_over f μ l h = rw (lt_leb (bound_by f μ l) (f.deadline l) h)
+boundless_over f μ l h = rw (lt-leb (bound_by f μ l) (f.deadline l) h)
 
 pub boundless_in : (f : Facts) (μ : Measure) (l : ℕ) → bound_by f μ l ≤ f.deadline l → boundless_by f μ l ≡ false
 unfolding boundless_by
-boundless_in f μ l h = rw (le_leb (bound_by f μ l) (f.deadline l) h)
+boundless_in f μ l h = rw (le-leb (bound_by f μ l) (f.deadline l) h)
 
 -- THE FLOWS PASSED, in order: each has its bound, and what the next ones read of it stands in its place
 pub record Bounding (f : Facts) (μ : Measure) (l : ℕ) (bounds periods : List ℕ) : Type 0 where

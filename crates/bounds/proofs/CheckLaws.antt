@@ -4,7 +4,7 @@ use Prim.Native.Nat.{ℕ}
 use mathlib.Core.Path.{◌≡◌, refl, sym, ◌∙◌, ap}
 use mathlib.Core.Bool.{cond}
 use mathlib.Core.List.{List, [], ◌∷◌}
-use borrow.Author.Tests.{eq_eqb, ne_eqb}
+use borrow.Author.Tests.{eq-eqb, ne_eqb}
 use Rattle.trade.specs.Layout.{sections_of}
 use Rattle.trade.specs.Facts.{facts_in, facts_of, said}
 use Rattle.trade.specs.Answers.{is_done, given_first, first_of, on, no_number}
@@ -20,19 +20,19 @@ nine : (b : List ℕ) → first_of ((λ c. code9 (said c)) ∷ []) no_number b �
 unfolding code9_by given_first
 nine b = first_of_last (λ c. code9 (said c)) b (given_passes 8 _ _)
 
-pub check_answer_law : (b : List ℕ) → check_answer b ≡ cond (is_done (read_answer b)) (code9 (said b)) (read_answer b)
+pub check_answer_lem : (b : List ℕ) → check_answer b ≡ cond (is_done (read_answer b)) (code9 (said b)) (read_answer b)
 unfolding check_answer_by check_rules_by read_answer book_rules on
-check_answer_law b =
+check_answer_lem b =
     first_of_on (λ c. c) book_rules ((λ c. code9 (said c)) ∷ []) no_number b
     ∙ ap (λ (a : Answer). cond (is_done (read_answer b)) a (read_answer b)) (nine b)
 
 pub check_refused : (b : List ℕ) → ((read_answer b).code ≡ 0 → ⊥) → check_answer b ≡ read_answer b
 unfolding is_done
-check_refused b n = check_answer_law b ∙ rw (ne_eqb (read_answer b).code 0 n)
+check_refused b n = check_answer_lem b ∙ rw (ne_eqb (read_answer b).code 0 n)
 
 pub check_passed : (b : List ℕ) → (read_answer b).code ≡ 0 → check_answer b ≡ code9 (said b)
 unfolding is_done
-check_passed b e = check_answer_law b ∙ rw (eq_eqb (read_answer b).code 0 e)
+check_passed b e = check_answer_lem b ∙ rw (eq-eqb (read_answer b).code 0 e)
 
 -- so what check owes is a refusal of reading, or what the bounds come to
 pub checks_refused : (b : List ℕ) → ((read_answer b).code ≡ 0 → ⊥) → ChecksAs b (refused_by (read_answer b))

@@ -2,14 +2,14 @@
 -- more rules out every one up to what it needs. Leans on the trade's First, Sums and Instances. Assumes nothing.
 use Prim.Native.Nat.{ℕ, suc, ◌+◌, ◌*◌, ◌≤◌, ◌<◌}
 use mathlib.Core.Path.{◌≡◌, refl, ◌∙◌, ap}
-use mathlib.Core.Bool.{Bool, false, ◌&&◌, and_false}
+use mathlib.Core.Bool.{Bool, false, ◌&&◌, and-false}
 use mathlib.Core.List.{List}
 use mathlib.Core.Logic.{⊎_elim}
 use native.Mathlib.Omega.{arith}
-use native.Mathlib.Nat.{add_le_add, mul_le_mul, mul_le_mul_right}
+use native.Mathlib.Nat.{add-le-add, mul-le-mul, mul-le-mul_right}
 use lib.Dec.{leb}
 use lib.ListN.{get_or}
-use borrow.Author.Tests.{le_leb, lt_leb}
+use borrow.Author.Tests.{le-leb, lt-leb}
 use Rattle.trade.specs.Facts.{Facts}
 use Rattle.trade.specs.Bound.{instances, Measure, slots_needed, admissible, bound_by}
 use Rattle.trade.proofs.First.{lt_or_ge, first_unique, first_none, first_cong}
@@ -28,25 +28,25 @@ module _ (needed : ℕ → ℕ) (len deadline : ℕ) where
 
   -- no R below L is, and past one that needs more none is up to what it needs
   pub none_at_first : NoneBelow len
-  none_at_first j h = rw (lt_leb len j h)
+  none_at_first j h = rw (lt-leb len j h)
 
   pub none_under : (least : ℕ) → ((r : ℕ) → len ≤ r → least ≤ needed r) → NoneBelow least
   none_under least more j h =
       ⊎_elim (λ (b : j < len). none_at_first j b)
-      (λ (b : len ≤ j). rw (lt_leb (needed j) j (omega (arith, more j b))) (and_false (leb len j && leb j deadline)))
+      (λ (b : len ≤ j). rw (lt-leb (needed j) j (omega (arith, more j b))) (and-false (leb len j && leb j deadline)))
       (lt_or_ge j len)
 
   pub none_further : ((r s : ℕ) → r ≤ s → needed r ≤ needed s) → (r : ℕ) → NoneBelow r → NoneBelow (needed r)
   none_further grows r before j h =
       ⊎_elim (λ (b : j < r). before j b)
-      (λ (b : r ≤ j). rw (lt_leb (needed j) j (omega (arith, grows r j b))) (and_false (leb len j && leb j deadline)))
+      (λ (b : r ≤ j). rw (lt-leb (needed j) j (omega (arith, grows r j b))) (and-false (leb len j && leb j deadline)))
       (lt_or_ge j r)
 
   -- so the first that is has been found, or there is none
   pub found_smallest : (r : ℕ) → len ≤ r → r ≤ deadline → needed r ≤ r → NoneBelow r → smallest_in needed len deadline ≡ r
   unfolding smallest_in
   found_smallest r l d n before =
-      first_unique enough (suc deadline) r (omega arith) before (λ h. rw (le_leb len r l, le_leb r deadline d, le_leb (needed r) r n))
+      first_unique enough (suc deadline) r (omega arith) before (λ h. rw (le-leb len r l, le-leb r deadline d, le-leb (needed r) r n))
 
   pub found_none : (r : ℕ) → deadline < r → NoneBelow r → smallest_in needed len deadline ≡ deadline + 1
   unfolding smallest_in
@@ -71,11 +71,11 @@ pub needed_grows :
     → needed_in len k figures periods carries r ≤ needed_in len k figures periods carries s
 unfolding needed_in
 needed_grows len k figures periods carries t r s h =
-    add_le_add (omega arith)
+    add-le-add (omega arith)
     (sum_mono (λ (i : ℕ). instances r (get_or carries i 0) (get_or periods i 0) * get_or figures i 0)
     (λ (i : ℕ). instances s (get_or carries i 0) (get_or periods i 0) * get_or figures i 0) k
     (λ i l.
-    mul_le_mul
+    mul-le-mul
     (instances_mono r s (get_or carries i 0) (get_or carries i 0) (get_or periods i 0) (get_or periods i 0) (t.period i l).0 (omega arith) h (omega arith))
     (omega arith)))
 
@@ -88,12 +88,12 @@ pub needed_least :
     → least_in len k figures ≤ needed_in len k figures periods carries r
 unfolding needed_in least_in
 needed_least len k figures periods carries t r h =
-    add_le_add (omega arith)
+    add-le-add (omega arith)
     (sum_mono (λ (i : ℕ). get_or figures i 0) (λ (i : ℕ). instances r (get_or carries i 0) (get_or periods i 0) * get_or figures i 0) k
     (λ i l. at_least_one (get_or figures i 0) (instances_least r (get_or carries i 0) (get_or periods i 0) h (t.carry i l).0 (t.period i l).0)))
   where
     at_least_one : {n : ℕ} (cost : ℕ) → 1 ≤ n → cost ≤ n * cost
-    at_least_one {n} cost h = omega (arith, mul_le_mul_right cost h)
+    at_least_one {n} cost h = omega (arith, mul-le-mul_right cost h)
 
 -- a bound is the smallest R that is at least the slots needed within it
 pub bound_is_smallest :

@@ -5,10 +5,10 @@ use mathlib.Core.Path.{◌≡◌, refl, sym, ◌∙◌, ap, ap₂}
 use mathlib.Core.Logic.{⊎_elim}
 use mathlib.Core.List.{List, []}
 use native.Mathlib.Omega.{arith}
-use native.Mathlib.Nat.{add_zero}
-use borrow.Author.Tests.{lt_ltb, le_ltb}
+use native.Mathlib.Nat.{add-zero}
+use borrow.Author.Tests.{lt-ltb, le-ltb}
 use lib.ListN.{length, take}
-use lib.Seq.{length_take_le, take_all}
+use lib.Seq.{length-take-le, take_all}
 use Rattle.trade.specs.Limits.{most_steps, row_bytes, record_bytes, step_bytes}
 use Rattle.trade.specs.First.{sum_to}
 use Rattle.trade.specs.Bytes.{word, two_bytes, over}
@@ -104,7 +104,7 @@ module _ (held : Tabled) (place : ℕ) (flow plan : List ℕ) (c : Coming held p
   -- whose steps are there where code 6 passes, since no L is above the most then
   new_len : field new.records place 4 ≡ field flow 0 4
   new_len =
-      ap (λ (i : ℕ). field new.records i 4) (sym (add_zero place))
+      ap (λ (i : ℕ). field new.records i 4) (sym (add-zero place))
       ∙ field_come (used t) (coming place flow plan) (old_full t c.old) fits 0 (omega arith) 4 (omega arith)
 
   len_most : (code6 (facts_of new)).code ≡ 0 → field flow 0 4 ≤ most_steps
@@ -147,27 +147,27 @@ module _ (held : Tabled) (place : ℕ) (flow plan : List ℕ) (c : Coming held p
   unfolding before_in
   kept_plan e i other =
       ⊎_elim
-      (λ (l : i < place). rw (lt_ltb i place l) (plan_before (used t) (coming place flow plan) (old_full t c.old) fits i l))
+      (λ (l : i < place). rw (lt-ltb i place l) (plan_before (used t) (coming place flow plan) (old_full t c.old) fits i l))
       (λ (l : place ≤ i).
       let k : ℕ = i - suc place in
       let new_at : place + 1 + k ≡ i = omega (arith, other) in
       let old_at : place + k ≡ i - 1 = omega (arith, other) in
-      rw (le_ltb i place l) (rw (new_at, old_at) at (plan_behind (used t) (coming place flow plan) (old_full t c.old) fits (exact e) k)))
+      rw (le-ltb i place l) (rw (new_at, old_at) at (plan_behind (used t) (coming place flow plan) (old_full t c.old) fits (exact e) k)))
       (lt_or_ge i place)
 
   -- stand in the order they stood in,
   was_below : (i : ℕ) → i < t.flows + 1 → (i ≡ place → ⊥) → before_in place i < t.flows
   unfolding before_in
   was_below i h other =
-      ⊎_elim (λ (l : i < place). rw (lt_ltb i place l) (omega (arith, c.within))) (λ (l : place ≤ i). rw (le_ltb i place l) (omega (arith, other))) (lt_or_ge i place)
+      ⊎_elim (λ (l : i < place). rw (lt-ltb i place l) (omega (arith, c.within))) (λ (l : place ≤ i). rw (le-ltb i place l) (omega (arith, other))) (lt_or_ge i place)
 
   was_above : (l h : ℕ) → h < l → (l ≡ place → ⊥) → (h ≡ place → ⊥) → before_in place h < before_in place l
   unfolding before_in
   was_above l h above p q =
       ⊎_elim
-      (λ (u : l < place). rw (lt_ltb l place u, lt_ltb h place (omega arith)) above)
+      (λ (u : l < place). rw (lt-ltb l place u, lt-ltb h place (omega arith)) above)
       (λ (u : place ≤ l).
-      ⊎_elim (λ (v : h < place). rw (le_ltb l place u, lt_ltb h place v) (omega (arith, p))) (λ (v : place ≤ h). rw (le_ltb l place u, le_ltb h place v) (omega (arith, p, q))) (lt_or_ge h place))
+      ⊎_elim (λ (v : h < place). rw (le-ltb l place u, lt-ltb h place v) (omega (arith, p))) (λ (v : place ≤ h). rw (le-ltb l place u, le-ltb h place v) (omega (arith, p, q))) (lt_or_ge h place))
       (lt_or_ge l place)
 
   -- and so the figures of the old table are theirs
@@ -220,7 +220,7 @@ module _ (a : Adding) (e : Enters a) where
         room = omega (arith, old.flows, room);
         within = within;
         recorded = its_record;
-        planned = omega (arith, its_len, length_take_le (step_bytes * min a.flow.len most_steps) a.plan (omega (arith, e.plan)));
+        planned = omega (arith, its_len, length-take-le (step_bytes * min a.flow.len most_steps) a.plan (omega (arith, e.plan)));
       }
 
   -- which are those that it should have

@@ -3,9 +3,9 @@
 use Prim.Native.Nat.{ℕ, suc, ◌+◌, ◌-◌, ◌*◌, ◌≤◌, ◌<◌}
 use mathlib.Core.Path.{◌≡◌, refl, sym, ◌∙◌, ap, ap₂}
 use mathlib.Core.Logic.{⊎_elim}
-use borrow.Author.Tests.{lt_ltb, le_ltb}
+use borrow.Author.Tests.{lt-ltb, le-ltb}
 use mathlib.Core.List.{List, []}
-use native.Mathlib.Numerals.{add_one}
+use native.Mathlib.Numerals.{add-one}
 use native.Mathlib.Omega.{arith}
 use lib.ListN.{length, take}
 use Rattle.trade.specs.Limits.{row_bytes, record_bytes, step_bytes}
@@ -82,7 +82,7 @@ module _ (held : Tabled) (place : ℕ) (c : Leaving held place) where
       (ap (take (step_bytes * last - (step_bytes * next - step_bytes * first))) g
       ∙ left_front (step_bytes * first) (step_bytes * next) (step_bytes * last) t.steps (omega (arith, step_first)) (omega (arith, step_next))
       (omega (arith, step_room))
-      ∙ steps_cut t c.old (leaving place) first next last (omega arith) (omega (arith, c.within)) e₁ (e₂ ∙ ap (sum_to lens) (add_one place)) e₃)
+      ∙ steps_cut t c.old (leaving place) first next last (omega arith) (omega (arith, c.within)) e₁ (e₂ ∙ ap (sum_to lens) (add-one place)) e₃)
 
   -- THE FLOWS that are left stand in the order they stood in, and so do their figures
   taken : TakenOut place (facts_of new) (facts_of (used t))
@@ -112,10 +112,10 @@ module _ (held : Tabled) (place : ℕ) (c : Leaving held place) where
       (λ (u : l < t.flows - 1).
       ⊎_elim
       (λ (v : h < l).
-      rw (lt_ltb l (t.flows - 1) u, lt_ltb l (facts_of new).flows (omega (arith, left_count)), lt_ltb h l v) (left_figure l h u v))
-      (λ (v : l ≤ h). rw (lt_ltb l (t.flows - 1) u, lt_ltb l (facts_of new).flows (omega (arith, left_count)), le_ltb h l v) refl)
+      rw (lt-ltb l (t.flows - 1) u, lt-ltb l (facts_of new).flows (omega (arith, left_count)), lt-ltb h l v) (left_figure l h u v))
+      (λ (v : l ≤ h). rw (lt-ltb l (t.flows - 1) u, lt-ltb l (facts_of new).flows (omega (arith, left_count)), le-ltb h l v) refl)
       (lt_or_ge h l))
-      (λ (u : t.flows - 1 ≤ l). rw (le_ltb l (t.flows - 1) u, le_ltb l (facts_of new).flows (omega (arith, left_count))) refl)
+      (λ (u : t.flows - 1 ≤ l). rw (le-ltb l (t.flows - 1) u, le-ltb l (facts_of new).flows (omega (arith, left_count))) refl)
       (lt_or_ge l (t.flows - 1)))
 
 -- REMOVING, where the old table and the place have passed: the flow may go

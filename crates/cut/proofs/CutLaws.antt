@@ -2,10 +2,10 @@
 -- them. Leans on the numbers' PastingLaws and the trade's Exchange. Assumes nothing.
 use Prim.Native.Nat.{ℕ, suc, ◌+◌, ◌-◌, ◌≤◌, ◌<◌}
 use mathlib.Core.Path.{◌≡◌, refl, sym, ◌∙◌, ap, ap₂}
-use mathlib.Core.List.{List, [], ◌++◌, append_assoc, append_nil, reverse_append, reverse_reverse}
+use mathlib.Core.List.{List, [], ◌++◌, append_assoc, append-nil, reverse-append, reverse-reverse}
 use native.Mathlib.Omega.{arith}
-use lib.ListN.{length, take, drop, set, replicate, length_append, length_drop, length_replicate, get_or_replicate, take_append_drop, drop_of_length_le, length_reverse}
-use lib.Seq.{length_take_le, take_all, take_take, take_add, take_at, drop_at, length_slice, paste, paste_zero, paste_suc, length_paste}
+use lib.ListN.{length, take, drop, set, replicate, length-append, length-drop, length-replicate, get_or-replicate, take-append-drop, drop_of_length-le, length-reverse}
+use lib.Seq.{length-take-le, take_all, take-take, take-add, take_at, drop_at, length-slice, paste, paste-zero, paste-suc, length-paste}
 use Rattle.trade.specs.Bytes.{part, padded, over}
 use Rattle.trade.specs.Exchange.{spliced}
 use Rattle.trade.proofs.Bytes.{take_over}
@@ -18,11 +18,11 @@ use Rattle.cut.specs.Turned.{turned}
 -- A LIST IN PARTS: what stands before a place, up to a second, up to a third, and behind it
 length_part : (from to : ℕ) (l : List ℕ) → to ≤ length l → length (slice from to l) ≡ to - from
 unfolding slice
-length_part from to l h = length_slice from to l h
+length_part from to l h = length-slice from to l h
 
 two_parts : (from to : ℕ) (l : List ℕ) → from ≤ to → take to l ≡ take from l ++ slice from to l
 unfolding slice
-two_parts from to l h = sym (take_append_drop from (take to l)) ∙ ap (λ (a : List ℕ). a ++ drop from (take to l)) (take_take from to l h)
+two_parts from to l h = sym (take-append-drop from (take to l)) ∙ ap (λ (a : List ℕ). a ++ drop from (take to l)) (take-take from to l h)
 
 in_parts :
     (from middle to : ℕ) (l : List ℕ)
@@ -30,7 +30,7 @@ in_parts :
     → middle ≤ to
     → l ≡ take from l ++ (slice from middle l ++ (slice middle to l ++ drop to l))
 in_parts from middle to l h g =
-    sym (take_append_drop to l)
+    sym (take-append-drop to l)
     ∙ ap (λ (a : List ℕ). a ++ drop to l) (two_parts middle to l g ∙ ap (λ (a : List ℕ). a ++ slice middle to l) (two_parts from middle l h))
     ∙ simp append_assoc
 
@@ -45,7 +45,7 @@ flipped_part :
     → flipped from to (a ++ (p ++ r)) ≡ a ++ (rev p ++ r)
 unfolding slice
 flipped_part from to a p r e f =
-    let both : length (a ++ p) ≡ to = length_append a p ∙ ap (λ (n : ℕ). n + length p) e ∙ f in
+    let both : length (a ++ p) ≡ to = length-append a p ∙ ap (λ (n : ℕ). n + length p) e ∙ f in
     rw (
       take_at a (p ++ r) from e,
       ← append_assoc a p r,
@@ -63,8 +63,8 @@ turned_parts :
     → turned from middle to (a ++ (p ++ (q ++ r))) ≡ a ++ (q ++ (p ++ r))
 unfolding turned slice
 turned_parts from middle to a p q r e f g =
-    let two : length (a ++ p) ≡ middle = length_append a p ∙ ap (λ (n : ℕ). n + length p) e ∙ f in
-    let three : length (a ++ p ++ q) ≡ to = length_append (a ++ p) q ∙ ap (λ (n : ℕ). n + length q) two ∙ g in
+    let two : length (a ++ p) ≡ middle = length-append a p ∙ ap (λ (n : ℕ). n + length p) e ∙ f in
+    let three : length (a ++ p ++ q) ≡ to = length-append (a ++ p) q ∙ ap (λ (n : ℕ). n + length q) two ∙ g in
     rw (
       take_at a (p ++ (q ++ r)) from e,
       ← append_assoc a p (q ++ r),
@@ -92,9 +92,9 @@ turned_in_turn from middle to l l₁ l₂ l₃ h g k e₁ e₂ e₃ =
     let p = slice from middle l in
     let q = slice middle to l in
     let r = drop to l in
-    let front : length a ≡ from = length_take_le from l (omega arith) in
-    let size_p : length (rev p) ≡ middle - from = length_reverse p ∙ length_part from middle l (omega arith) in
-    let size_q : length (rev q) ≡ to - middle = length_reverse q ∙ length_part middle to l k in
+    let front : length a ≡ from = length-take-le from l (omega arith) in
+    let size_p : length (rev p) ≡ middle - from = length-reverse p ∙ length_part from middle l (omega arith) in
+    let size_q : length (rev q) ≡ to - middle = length-reverse q ∙ length_part middle to l k in
     let f₁ : l₁ ≡ a ++ rev p ++ (q ++ r) =
     e₁
     ∙ ap (flipped from middle) (in_parts from middle to l h g)
@@ -103,19 +103,19 @@ turned_in_turn from middle to l l₁ l₂ l₃ h g k e₁ e₂ e₃ =
     let f₂ : l₂ ≡ a ++ ((rev p ++ rev q) ++ r) =
     e₂
     ∙ ap (flipped middle to) f₁
-    ∙ flipped_part middle to (a ++ rev p) q r (omega (arith, length_append a (rev p), front, size_p)) (omega (arith, length_part middle to l k))
+    ∙ flipped_part middle to (a ++ rev p) q r (omega (arith, length-append a (rev p), front, size_p)) (omega (arith, length_part middle to l k))
     ∙ simp append_assoc in
     e₃
     ∙ ap (flipped from to) f₂
-    ∙ flipped_part from to a (rev p ++ rev q) r front (omega (arith, length_append (rev p) (rev q), size_p, size_q))
-    ∙ rw (reverse_append (rev p) (rev q), reverse_reverse q, reverse_reverse p, append_assoc q p r)
+    ∙ flipped_part from to a (rev p ++ rev q) r front (omega (arith, length-append (rev p) (rev q), size_p, size_q))
+    ∙ rw (reverse-append (rev p) (rev q), reverse-reverse q, reverse-reverse p, append_assoc q p r)
 
 -- bytes in use without those from one place up to another
 without : (from to end : ℕ) (l : List ℕ) → from ≤ end → spliced from to [] (take end l) ≡ take from l ++ slice to end l
 unfolding spliced slice
 without from to end l h =
-    ap (λ (a : List ℕ). a ++ [] ++ drop to (take end l)) (take_take from end l h)
-    ∙ ap (λ (a : List ℕ). a ++ drop to (take end l)) (append_nil (take from l))
+    ap (λ (a : List ℕ). a ++ [] ++ drop to (take end l)) (take-take from end l h)
+    ∙ ap (λ (a : List ℕ). a ++ drop to (take end l)) (append-nil (take from l))
 
 -- stand in front once these have changed about with the ones behind them
 pub left_front :
@@ -129,7 +129,7 @@ left_front from to end l h g k =
     let a = take from l in
     let t = slice to end l in
     let size : length (a ++ t) ≡ end - (to - from) =
-    length_append a t ∙ omega (arith, length_take_le from l (omega arith), length_part to end l k) in
+    length-append a t ∙ omega (arith, length-take-le from l (omega arith), length_part to end l k) in
     ap (take (end - (to - from))) (sym (append_assoc a t (slice from to l ++ drop end l)))
     ∙ take_at (a ++ t) (slice from to l ++ drop end l) (end - (to - from)) size
     ∙ sym (without from to end l (omega arith))
@@ -143,23 +143,23 @@ zeroed end i l = paste l end (zeros (length l - end)) (i - end)
 
 module _ (end : ℕ) (l : List ℕ) (h : end ≤ length l) where
   size : length (zeros (length l - end)) ≡ length l - end
-  size = length_replicate {A = ℕ} (length l - end) 0
+  size = length-replicate {A = ℕ} (length l - end) 0
 
   pub zeroed_none : l ≡ zeroed end end l
   zeroed_none =
       let none : 0 ≡ end - end = omega arith in
-      paste_zero l end (zeros (length l - end)) ∙ ap (paste l end (zeros (length l - end))) none
+      paste-zero l end (zeros (length l - end)) ∙ ap (paste l end (zeros (length l - end))) none
 
   pub zeroed_length : (i : ℕ) (k : List ℕ) → end ≤ i → i ≤ length l → k ≡ zeroed end i l → length k ≡ length l
-  zeroed_length i k g j e = ap length e ∙ length_paste l end (zeros (length l - end)) (i - end) (omega arith) (omega (arith, size))
+  zeroed_length i k g j e = ap length e ∙ length-paste l end (zeros (length l - end)) (i - end) (omega arith) (omega (arith, size))
 
   pub zeroed_next : (i : ℕ) (k : List ℕ) → end ≤ i → i < length l → k ≡ zeroed end i l → set k i 0 ≡ zeroed end (i + 1) l
   zeroed_next i k g j e =
       let at : end + (i - end) ≡ i = omega arith in
       let next : suc (i - end) ≡ i + 1 - end = omega arith in
       ap (λ (m : List ℕ). set m i 0) e
-      ∙ sym (ap₂ (set (zeroed end i l)) at (get_or_replicate (length l - end) (i - end) 0 0 (omega arith)))
-      ∙ paste_suc l end (zeros (length l - end)) (i - end) 0 (omega arith) (omega (arith, size))
+      ∙ sym (ap₂ (set (zeroed end i l)) at (get_or-replicate (length l - end) (i - end) 0 0 (omega arith)))
+      ∙ paste-suc l end (zeros (length l - end)) (i - end) 0 (omega arith) (omega (arith, size))
       ∙ ap (paste l end (zeros (length l - end))) next
 
   pub zeroed_all : (k : List ℕ) → k ≡ zeroed end (length l) l → k ≡ padded (length l) (take end l)
@@ -168,9 +168,9 @@ module _ (end : ℕ) (l : List ℕ) (h : end ≤ length l) where
       e
       ∙ rw (
         take_all (length l - end) (zeros (length l - end)) (omega (arith, size)),
-        drop_of_length_le l {i = end + (length l - end)} (omega arith),
-        append_nil (take end l ++ zeros (length l - end)),
-        length_take_le end l h,
+        drop_of_length-le l {i = end + (length l - end)} (omega arith),
+        append-nil (take end l ++ zeros (length l - end)),
+        length-take-le end l h,
       )
 
 -- HELD BYTES that change about with as many of a section, through a third place
@@ -179,13 +179,13 @@ kept_front held zeros kept e = ap (take (length held)) (e ∙ pasted_first held 
 
 pub over_all : (new old : List ℕ) → length new ≡ length old → pasted_at 0 new old ≡ new
 unfolding over
-over_all new old e = pasted_first new old ∙ rw (drop_of_length_le old {i = length new} (omega arith), append_nil new)
+over_all new old e = pasted_first new old ∙ rw (drop_of_length-le old {i = length new} (omega arith), append-nil new)
 
 -- THEY COME IN at a place of the bytes in use: what was put behind these changes about with those from the place on
 module _ (at end : ℕ) (held l : List ℕ) (within : at ≤ end) (room : end + length held ≤ length l) where
   pub length_entered : length (spliced at at held (take end l)) ≡ end + length held
   length_entered =
-      let used : length (take end l) ≡ end = length_take_le end l (omega arith) in
+      let used : length (take end l) ≡ end = length-take-le end l (omega arith) in
       length_spliced at at held (take end l) (omega arith) ∙ omega arith
 
   pub entered_in_turn : turned at end (end + length held) (pasted_at end held l) ≡ over (spliced at at held (take end l)) l
@@ -195,10 +195,10 @@ module _ (at end : ℕ) (held l : List ℕ) (within : at ≤ end) (room : end + 
       let t = slice at end l in
       let r = drop (end + length held) l in
       ap (turned at end (end + length held)) (ap (λ (u : List ℕ). u ++ held ++ r) (two_parts at end l within) ∙ simp append_assoc)
-      ∙ turned_parts at end (end + length held) a t held r (length_take_le at l (omega arith))
+      ∙ turned_parts at end (end + length held) a t held r (length-take-le at l (omega arith))
       (omega (arith, length_part at end l (omega arith))) refl
       ∙ sym
-      (ap₂ (λ (x : List ℕ) (n : ℕ). x ++ drop n l) (ap (λ (x : List ℕ). x ++ held ++ t) (take_take at end l within)) length_entered
+      (ap₂ (λ (x : List ℕ) (n : ℕ). x ++ drop n l) (ap (λ (x : List ℕ). x ++ held ++ t) (take-take at end l within)) length_entered
       ∙ simp append_assoc)
 
   -- AND GO AGAIN: as many from the place on change about with those in use behind them, and the held ones are put over them
@@ -207,7 +207,7 @@ module _ (at end : ℕ) (held l : List ℕ) (within : at ≤ end) (room : end + 
 
   length_gone : length gone ≡ end
   length_gone =
-      let used : length (take (end + length held) l) ≡ end + length held = length_take_le (end + length held) l room in
+      let used : length (take (end + length held) l) ≡ end + length held = length-take-le (end + length held) l room in
       length_spliced at (at + length held) [] (take (end + length held) l) (omega arith) ∙ omega arith
 
   pub left_in_turn : pasted_at end held (turned at (at + length held) (end + length held) l) ≡ over (gone ++ held) l
@@ -217,17 +217,17 @@ module _ (at end : ℕ) (held l : List ℕ) (within : at ≤ end) (room : end + 
       let p = slice at (at + length held) l in
       let t = slice (at + length held) (end + length held) l in
       let r = drop (end + length held) l in
-      let size_a : length a ≡ at = length_take_le at l (omega arith) in
+      let size_a : length a ≡ at = length-take-le at l (omega arith) in
       let size_p : length p ≡ length held = length_part at (at + length held) l (omega arith) ∙ omega arith in
       let size_t : length t ≡ end - at = length_part (at + length held) (end + length held) l room ∙ omega arith in
-      let front : length (a ++ t) ≡ end = length_append a t ∙ omega arith in
-      let all : length (a ++ t ++ p) ≡ end + length held = length_append (a ++ t) p ∙ omega arith in
+      let front : length (a ++ t) ≡ end = length-append a t ∙ omega arith in
+      let all : length (a ++ t ++ p) ≡ end + length held = length-append (a ++ t) p ∙ omega arith in
       let seam : a ++ (t ++ (p ++ r)) ≡ a ++ t ++ (p ++ r) = sym (append_assoc a t (p ++ r)) in
       ap₂ (λ (x y : List ℕ). x ++ held ++ y) (ap (take end) seam ∙ take_at (a ++ t) (p ++ r) end front)
       (ap (drop (end + length held)) (seam ∙ sym (append_assoc (a ++ t) p r)) ∙ drop_at (a ++ t ++ p) r (end + length held) all)
       ∙ sym
       (ap₂ (λ (x : List ℕ) (n : ℕ). x ++ held ++ drop n l) (without at (at + length held) (end + length held) l (omega arith))
-      (length_append gone held ∙ ap (λ (n : ℕ). n + length held) length_gone))
+      (length-append gone held ∙ ap (λ (n : ℕ). n + length held) length_gone))
 
 -- so that what came in and goes again leaves the section as it was
 pub out_again :
@@ -245,25 +245,25 @@ out_again at end held l within room s kept e f =
     let t = drop at (take end l) in
     let x = a ++ held ++ t in
     let r = drop (end + k) l in
-    let used : length (take end l) ≡ end = length_take_le end l (omega arith) in
-    let size_a : length a ≡ at = length_take_le at (take end l) (omega arith) in
+    let used : length (take end l) ≡ end = length-take-le end l (omega arith) in
+    let size_a : length a ≡ at = length-take-le at (take end l) (omega arith) in
     let size_x : length x ≡ end + k = length_entered at end held l within room in
-    let size_kept : length kept ≡ k = ap length f ∙ length_take_le k (drop end l) (omega (arith, length_drop end l)) in
+    let size_kept : length kept ≡ k = ap length f ∙ length-take-le k (drop end l) (omega (arith, length-drop end l)) in
     let first : s ≡ x ++ r = e ∙ ap (λ (n : ℕ). x ++ drop n l) size_x in
     let front : take (end + k) s ≡ x = ap (take (end + k)) first ∙ take_at x r (end + k) size_x in
     let back : drop (end + k) s ≡ r = ap (drop (end + k)) first ∙ drop_at x r (end + k) size_x in
     let old : take at x ++ [] ++ drop (at + k) x ≡ take end l =
     ap₂ (λ (u v : List ℕ). u ++ [] ++ v) (ap (take at) (append_assoc a held t) ∙ take_at a (held ++ t) at size_a)
-    (drop_at (a ++ held) t (at + k) (length_append a held ∙ omega arith))
-    ∙ ap (λ (u : List ℕ). u ++ t) (append_nil a)
-    ∙ take_append_drop at (take end l) in
-    let whole : take end l ++ kept ≡ take (end + k) l = ap (λ (u : List ℕ). take end l ++ u) f ∙ sym (take_add end k l) in
+    (drop_at (a ++ held) t (at + k) (length-append a held ∙ omega arith))
+    ∙ ap (λ (u : List ℕ). u ++ t) (append-nil a)
+    ∙ take-append-drop at (take end l) in
+    let whole : take end l ++ kept ≡ take (end + k) l = ap (λ (u : List ℕ). take end l ++ u) f ∙ sym (take-add end k l) in
     let y : take at (take (end + length kept) s) ++ [] ++ drop (at + length kept) (take (end + length kept) s) ++ kept ≡ take (end + k) l =
     rw (size_kept, front, old) whole in
     ap (λ (u : List ℕ). u ++ drop (length u) s) y
-    ∙ ap (λ (n : ℕ). take (end + k) l ++ drop n s) (length_take_le (end + k) l room)
+    ∙ ap (λ (n : ℕ). take (end + k) l ++ drop n s) (length-take-le (end + k) l room)
     ∙ ap (λ (u : List ℕ). take (end + k) l ++ u) back
-    ∙ take_append_drop (end + k) l
+    ∙ take-append-drop (end + k) l
 
 -- and the bytes that went stand behind those in use
 pub went_behind :
@@ -274,10 +274,10 @@ went_behind at end size l h k =
     let q = slice (at + size) (end + size) l in
     let p = slice at (at + size) l in
     let r = drop (end + size) l in
-    let front : length a ≡ at = length_take_le at l (omega arith) in
-    let both : length (a ++ q) ≡ end = length_append a q ∙ omega (arith, front, length_part (at + size) (end + size) l k) in
+    let front : length a ≡ at = length-take-le at l (omega arith) in
+    let both : length (a ++ q) ≡ end = length-append a q ∙ omega (arith, front, length_part (at + size) (end + size) l k) in
     let went : length p ≡ size = length_part at (at + size) l (omega arith) ∙ omega arith in
-    let same : p ≡ take size (drop at l) = ap (drop at) (take_add at size l) ∙ drop_at a (take size (drop at l)) at front in
+    let same : p ≡ take size (drop at l) = ap (drop at) (take-add at size l) ∙ drop_at a (take size (drop at l)) at front in
     ap (λ (b : List ℕ). take size (drop end b)) (sym (append_assoc a q (p ++ r)))
     ∙ ap (take size) (drop_at (a ++ q) (p ++ r) end both)
     ∙ take_at p r size went

@@ -1,6 +1,6 @@
 -- The interference of two well-formed flows is the worst path through their plans, at most a plan's length; and through the plan of the one
 -- with its repeated steps once. Leans on the pairs' PathLaws. Assumes nothing.
-use Rattle.std.proofs.Common.{◌≡◌, ℕ, ◌+◌, ◌-◌, ◌*◌, ◌<◌, ◌≤◌, true, false, ◌||◌, eqb, List, length, get_or, sym, refl, ap, ◌∙◌, ⊎_elim, arith, ext_get_or, eq_eqb, eqb_true}
+use Rattle.std.proofs.Common.{◌≡◌, ℕ, ◌+◌, ◌-◌, ◌*◌, ◌<◌, ◌≤◌, true, false, ◌||◌, eqb, List, length, get_or, sym, refl, ap, ◌∙◌, ⊎_elim, arith, ext_get_or, eq-eqb, eqb-true}
 use Rattle.trade.specs.Limits.{most_flows, step_bytes}
 use Rattle.trade.specs.declared.node.Transmission.{Transmission}
 use Rattle.trade.specs.Conflict.{conflict}
@@ -11,7 +11,7 @@ use Rattle.plans.specs.Plan.{AllWithin, steps_in, plan_in}
 use Rattle.plans.specs.Single.{again, singles, place_of, Singled}
 use Rattle.plans.proofs.StepsLaws.{step_plan, plan_length, steps_plan}
 use Rattle.plans.proofs.SingleLaws.{singles_none, singles_new, singles_some, singles_most, place_below, place_next, place_onto}
-use mathlib.Core.Bool.{or_true}
+use mathlib.Core.Bool.{or-true}
 use Rattle.trade.specs.declared.node.Node.{Node}
 use Rattle.nodes.specs.Network.{InNetwork}
 use Rattle.trade.specs.First.{some}
@@ -153,10 +153,10 @@ all_heard k l rows records steps heard f below r h j p q =
     let sender : ℕ = (step_in steps at).sender.0 in
     let receiver : ℕ = (step_in steps at).receiver.0 in
     rw same (
-      known sender (some_intro (λ (i : ℕ). ending (step_in steps i) sender) (plan_start records (k - 1)) at there (rw (eq_eqb sender sender refl) refl)),
+      known sender (some_intro (λ (i : ℕ). ending (step_in steps i) sender) (plan_start records (k - 1)) at there (rw (eq-eqb sender sender refl) refl)),
       known receiver
           (some_intro (λ (i : ℕ). ending (step_in steps i) receiver) (plan_start records (k - 1)) at there
-          (rw (eq_eqb receiver receiver refl) (or_true (eqb sender receiver)))),
+          (rw (eq-eqb receiver receiver refl) (or-true (eqb sender receiver)))),
     )
   where
     known : (x : ℕ) → some (λ (i : ℕ). ending (step_in steps i) x) (plan_start records (k - 1)) ≡ true → Hears rows heard x
@@ -177,6 +177,6 @@ nodes_known k rows records steps f x e =
   where
     ends : {a b : Node} → InNetwork rows a → InNetwork rows b → (eqb a.0 x || eqb b.0 x) ≡ true → x < nodes_in rows
     ends {a} {b} p q t =
-        ⊎_elim (λ (z : eqb a.0 x ≡ true). omega (arith, eqb_true a.0 x z, p.numbered, p.row))
-        (λ (z : eqb a.0 x ≡ false). let y : eqb b.0 x ≡ true = rw z at t in omega (arith, eqb_true b.0 x y, q.numbered, q.row))
+        ⊎_elim (λ (z : eqb a.0 x ≡ true). omega (arith, eqb-true a.0 x z, p.numbered, p.row))
+        (λ (z : eqb a.0 x ≡ false). let y : eqb b.0 x ≡ true = rw z at t in omega (arith, eqb-true b.0 x y, q.numbered, q.row))
         (bool_cases (eqb a.0 x))

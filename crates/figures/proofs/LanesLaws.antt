@@ -1,6 +1,6 @@
 -- Plans laid into lanes: one step more of a plan, one plan more, what the words then hold, and the figures read at the ends. Leans on
 -- RisesLaws. Assumes nothing.
-use Rattle.std.proofs.Common.{◌≡◌, ℕ, suc, ◌+◌, ◌-◌, ◌*◌, ◌%◌, ◌^◌, ◌<◌, ◌≤◌, Bool, true, false, ◌&&◌, ◌||◌, eqb, ltb, ◌⊎◌, List, length, get_or, set, sym, refl, ap, ◌∙◌, ⊎_elim, arith, length_set, get_or_set_other, get_or_set_same, pow_pos, le_ltb, lt_ltb, eq_eqb, ne_eqb}
+use Rattle.std.proofs.Common.{◌≡◌, ℕ, suc, ◌+◌, ◌-◌, ◌*◌, ◌%◌, ◌^◌, ◌<◌, ◌≤◌, Bool, true, false, ◌&&◌, ◌||◌, eqb, ltb, ◌⊎◌, List, length, get_or, set, sym, refl, ap, ◌∙◌, ⊎_elim, arith, length-set, get_or-set_other, get_or-set_same, pow_pos, le-ltb, lt-ltb, eq-eqb, ne_eqb}
 use lib.Bits.{bit_or}
 use Rattle.trade.specs.Limits.{most_steps, most_id}
 use Rattle.trade.specs.Layout.{field}
@@ -60,7 +60,7 @@ pub laying_more :
     → LayingAt columns h at (suc j) before (set words j (bit_or (get_or words j 0) ((m * 2 ^ at) % 2 ^ 64)))
 laying_more columns h at j m before words room inside marks s =
     record {
-      size = length_set words j put ∙ s.size;
+      size = length-set words j put ∙ s.size;
       laid =
           λ i b l f.
           ⊎_elim (λ (q : i < j). rw (other i (λ z. omega arith)) (s.laid i b q f))
@@ -74,11 +74,11 @@ laying_more columns h at j m before words room inside marks s =
     put = bit_or (get_or words j 0) ((m * 2 ^ at) % 2 ^ 64)
 
     other : (i : ℕ) → (i ≡ j → ⊥) → get_or (set words j put) i 0 ≡ get_or words i 0
-    other i d = get_or_set_other words j i put 0 d
+    other i d = get_or-set_other words j i put 0 d
 
     here : (i y : ℕ) → i ≡ j → bit (get_or (set words j put) i 0) y ≡ (bit (get_or before i 0) y || bit ((m * 2 ^ at) % 2 ^ 64) y)
     here i y q =
-        rw (q, get_or_set_same words j put 0 room) (bit_or (get_or words j 0) ((m * 2 ^ at) % 2 ^ 64) y ∙ rw (s.others j (omega arith)) refl)
+        rw (q, get_or-set_same words j put 0 room) (bit_or (get_or words j 0) ((m * 2 ^ at) % 2 ^ 64) y ∙ rw (s.others j (omega arith)) refl)
 
     here_at :
         (i b : ℕ)
@@ -108,24 +108,24 @@ laying_all columns h at n before words asked small narrow inside s =
     }
   where
     within : (j b : ℕ) → b < n → j < steps_in h → bit (get_or words j 0) (at + b) ≡ (bit (get_or before j 0) (at + b) || laid_mark columns h j b)
-    within j b l q = s.laid j b q (omega arith) ∙ rw (lt_ltb b most_steps (omega arith), lt_ltb j (steps_in h) q) refl
+    within j b l q = s.laid j b q (omega arith) ∙ rw (lt-ltb b most_steps (omega arith), lt-ltb j (steps_in h) q) refl
 
     behind : (j b : ℕ) → b < n → steps_in h ≤ j → bit (get_or words j 0) (at + b) ≡ (bit (get_or before j 0) (at + b) || laid_mark columns h j b)
-    behind j b l q = rw (s.others j q, le_ltb j (steps_in h) q) (sym (or_none (bit (get_or before j 0) (at + b))))
+    behind j b l q = rw (s.others j q, le-ltb j (steps_in h) q) (sym (or_none (bit (get_or before j 0) (at + b))))
 
-    no_mark_law : (j b : ℕ) → j < steps_in h → n ≤ b → (ltb b most_steps && marked_at columns (step_in h j) b) ≡ false
-    no_mark_law j b q l =
+    no_mark_lem : (j b : ℕ) → j < steps_in h → n ≤ b → (ltb b most_steps && marked_at columns (step_in h j) b) ≡ false
+    no_mark_lem j b q l =
         ⊎_elim
         (λ (f : b < most_steps).
-        rw (lt_ltb b most_steps f) (narrow (step_in h j) b (asked.numbered j (omega arith)).0 (asked.numbered j (omega arith)).1 l f))
-        (λ (f : most_steps ≤ b). rw (le_ltb b most_steps f) refl)
+        rw (lt-ltb b most_steps f) (narrow (step_in h j) b (asked.numbered j (omega arith)).0 (asked.numbered j (omega arith)).1 l f))
+        (λ (f : most_steps ≤ b). rw (le-ltb b most_steps f) refl)
         (lt_or_ge b most_steps)
 
     unmarked : (j y : ℕ) → at + n ≤ y → j < steps_in h → y < 64 → bit (get_or words j 0) y ≡ bit (get_or before j 0) y
     unmarked j y l q f =
         let b : ℕ = y - at in
         let e : y ≡ at + b = omega arith in
-        rw e (s.laid j b q (omega arith) ∙ rw (no_mark_law j b q (omega arith)) (or_none (bit (get_or before j 0) (at + b))))
+        rw e (s.laid j b q (omega arith) ∙ rw (no_mark_lem j b q (omega arith)) (or_none (bit (get_or before j 0) (at + b))))
 
 -- SO MANY PLANS: none yet, and one more
 module _ (columns : List ℕ) (n : ℕ) (plans : ℕ → List ℕ) where
@@ -182,7 +182,7 @@ ends_more n lanes ends end is s =
     apart y d = ne_eqb (lane_at n lanes + n) y d
 
     here : (k : ℕ) → k ≡ lanes → (bit ends (lane_at n k + n) || eqb (lane_at n lanes + n) (lane_at n k + n)) ≡ true
-    here k q = rw (q, eq_eqb (lane_at n lanes + n) (lane_at n lanes + n) refl, s.beyond (lane_at n lanes + n) (omega arith)) refl
+    here k q = rw (q, eq-eqb (lane_at n lanes + n) (lane_at n lanes + n) refl, s.beyond (lane_at n lanes + n) (omega arith)) refl
 
     free : (k b : ℕ) → k ≡ lanes → b < n → (bit ends (lane_at n k + b) || eqb (lane_at n lanes + n) (lane_at n k + b)) ≡ false
     free k b q m = rw (q, s.beyond (lane_at n lanes + b) (omega arith)) (apart (lane_at n lanes + b) (λ z. omega arith))
@@ -210,7 +210,7 @@ pub lane_figure :
     → worst_path (lane_matrix columns n plans k) n count ≡ worst_path (matrix_by columns n (plans k)) n (steps_in (plans k))
 lane_figure columns n plans k count h =
     columns_behind (matrix_by columns n (plans k)) (lane_matrix columns n plans k) n (steps_in (plans k)) count h
-    (λ i j p q. rw (lt_ltb j (steps_in (plans k)) q) refl) (λ i j q. rw (le_ltb j (steps_in (plans k)) q) refl)
+    (λ i j p q. rw (lt-ltb j (steps_in (plans k)) q) refl) (λ i j q. rw (le-ltb j (steps_in (plans k)) q) refl)
 
 -- THE FIGURES read at the ends
 pub lane_on : (n k : ℕ) → lane_at n (suc k) ≡ lane_at n k + suc n
@@ -230,17 +230,17 @@ module _ (line : Rises) (n first : ℕ) (before : List ℕ) where
       → ReadOut line n first (suc h) before (set after h v)
   read_more h v after f l e r =
       record {
-        size = length_set after h v ∙ r.size;
+        size = length-set after h v ∙ r.size;
         read = λ x p q. ⊎_elim (λ (m : x < h). rw (other x (λ z. omega arith)) (r.read x p m)) (λ (m : h ≤ x). here x (omega arith)) (lt_or_ge x h);
         below = λ x p. other x (λ z. omega arith) ∙ r.below x p;
         past = λ x p. other x (λ z. omega arith) ∙ r.past x (omega arith);
       }
     where
       other : (x : ℕ) → (x ≡ h → ⊥) → get_or (set after h v) x 0 ≡ get_or after x 0
-      other x d = get_or_set_other after h x v 0 d
+      other x d = get_or-set_other after h x v 0 d
 
       here : (x : ℕ) → x ≡ h → rise_at line (lane_at n (x - first) + n) + get_or (set after h v) x 0 ≡ 63
-      here x q = rw (q, get_or_set_same after h v 0 l) e
+      here x q = rw (q, get_or-set_same after h v 0 l) e
 
 -- A GROUP OF FLOWS: none yet, and one more
 module _ (columns : List ℕ) (n : ℕ) (records steps : List ℕ) (first l : ℕ) where

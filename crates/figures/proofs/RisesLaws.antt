@@ -1,9 +1,9 @@
 -- Lines side by side: the rises shifted by a bit, the carry of a sum that lifts each line and ends with it, and what a line says after the
 -- last columns. Leans on the trade's Interference. Assumes nothing.
-use Rattle.std.proofs.Common.{◌≡◌, ℕ, zero, suc, ◌+◌, ◌-◌, ◌*◌, ◌/◌, ◌%◌, ◌^◌, ◌<◌, ◌≤◌, max, Bool, true, false, cond, not, ◌&&◌, ◌||◌, eqb, ◌⊎◌, sym, refl, ap, ◌∙◌, ap₂, inl, inr, ⊎_elim, pow_suc, arith, ne_eqb, eqb_true}
-use mathlib.Core.Bool.{or_true, and_false}
+use Rattle.std.proofs.Common.{◌≡◌, ℕ, zero, suc, ◌+◌, ◌-◌, ◌*◌, ◌/◌, ◌%◌, ◌^◌, ◌<◌, ◌≤◌, max, Bool, true, false, cond, not, ◌&&◌, ◌||◌, eqb, ◌⊎◌, sym, refl, ap, ◌∙◌, ap₂, inl, inr, ⊎_elim, pow-suc, arith, ne_eqb, eqb-true}
+use mathlib.Core.Bool.{or-true, and-false}
 use lib.Bits.{bit_or, bit_and, bit_xor, or_lt}
-use borrow.Author.Tests.{eqb_false}
+use borrow.Author.Tests.{eqb-false}
 use Rattle.trade.specs.Bytes.{bit}
 use Rattle.trade.specs.Interference.{Matrix, one, worst}
 use Rattle.trade.proofs.First.{lt_or_ge, bool_cases, not_both}
@@ -150,7 +150,7 @@ module _ (line : Rises) (up down b : ℕ) where
   shifted_less : bit down b ≡ true → (rise_at (shifted_line line up down) b + 1) % 64 ≡ rise_at line b
   unfolding one
   shifted_less d =
-      omega (arith, rw (d, or_true (bit up b)) at shifted_at, rise_six line b, rise_small line b, all_at _ (six_down true) line b)
+      omega (arith, rw (d, or-true (bit up b)) at shifted_at, rise_six line b, rise_small line b, all_at _ (six_down true) line b)
 
   shifted_same : bit up b ≡ false → bit down b ≡ false → rise_at (shifted_line line up down) b ≡ rise_at line b
   unfolding one
@@ -321,12 +321,12 @@ module _
                 ≡ W (suc b) + one (marked (suc b) || ((marked (suc b) || eqb (rise_at line (s + suc b)) 0) && lifts (s + suc b)))
             cases (inl m) t = rw m (omega (arith, grows (suc b), one_le (lifts (s + suc b))))
             cases (inr m) (inl t) =
-                rw (m, t) (omega (arith, rises (suc b) h, eqb_true (rise_at line (s + suc b)) 0 t, one_le (lifts (s + suc b))))
+                rw (m, t) (omega (arith, rises (suc b) h, eqb-true (rise_at line (s + suc b)) 0 t, one_le (lifts (s + suc b))))
             cases (inr m) (inr t) =
                 rw (m, t)
                 (⊎_elim
                 (λ (p : 0 < rise_at line (s + suc b)). omega (arith, rises (suc b) h, one_le (lifts (s + suc b))))
-                (λ (p : rise_at line (s + suc b) ≤ 0). absurd (eqb_false (rise_at line (s + suc b)) 0 t (omega arith)))
+                (λ (p : rise_at line (s + suc b) ≤ 0). absurd (eqb-false (rise_at line (s + suc b)) 0 t (omega arith)))
                 (lt_or_ge 0 (rise_at line (s + suc b))))
 
         before_lifts : (b : ℕ) → b ≤ n → before (over W marked) b ≡ before W b + one (lifts (s + b))
@@ -386,7 +386,7 @@ module _
                   n.0,
                   n.1,
                   rises b h,
-                  sh.same (s + b) (ups (s + b) (omega arith) ∙ rw m refl) (downs (s + b) (omega arith) ∙ rw (free (s + b) (omega arith), m, level) (and_false (lifts (s + b)))),
+                  sh.same (s + b) (ups (s + b) (omega arith) ∙ rw m refl) (downs (s + b) (omega arith) ∙ rw (free (s + b) (omega arith), m, level) (and-false (lifts (s + b)))),
                 )
 
         -- what is lifted at the last place is taken at the end, where the carry ends
@@ -438,14 +438,14 @@ others (suc k) n zero f h = cases (last_cases n)
   where
     cases : (n % 2 ≡ 0) ⊎ (n % 2 ≡ 1) → bit (2 ^ suc k - 1 - n) 0 ≡ not (bit n 0)
     cases (inl e) =
-        let o : (2 ^ suc k - 1 - n) % 2 ≡ 1 = omega (arith, pow_suc 2 k) in
+        let o : (2 ^ suc k - 1 - n) % 2 ≡ 1 = omega (arith, pow-suc 2 k) in
         rw (bit_zero (2 ^ suc k - 1 - n), bit_zero n, e, o) refl
     cases (inr e) =
-        let o : (2 ^ suc k - 1 - n) % 2 ≡ 0 = omega (arith, pow_suc 2 k) in
+        let o : (2 ^ suc k - 1 - n) % 2 ≡ 0 = omega (arith, pow-suc 2 k) in
         rw (bit_zero (2 ^ suc k - 1 - n), bit_zero n, e, o) refl
 others (suc k) n (suc b) f h =
-    let e : (2 ^ suc k - 1 - n) / 2 ≡ 2 ^ k - 1 - n / 2 = omega (arith, pow_suc 2 k) in
-    rw (bit_suc (2 ^ suc k - 1 - n) b, e, bit_suc n b) (others k (n / 2) b (omega (arith, pow_suc 2 k)) (omega arith))
+    let e : (2 ^ suc k - 1 - n) / 2 ≡ 2 ^ k - 1 - n / 2 = omega (arith, pow-suc 2 k) in
+    rw (bit_suc (2 ^ suc k - 1 - n) b, e, bit_suc n b) (others k (n / 2) b (omega (arith, pow-suc 2 k)) (omega arith))
 
 -- a bit read as a number
 digit : (n b : ℕ) → one (bit n b) ≡ (n / 2 ^ b) % 2

@@ -7,8 +7,8 @@ use mathlib.Core.List.{List}
 use mathlib.Core.Logic.{⊎_elim}
 use native.Mathlib.Omega.{arith}
 use lib.Dec.{eqb, leb}
-use lib.ListN.{length, replicate, length_replicate}
-use borrow.Author.Tests.{eqb_true, eqb_false}
+use lib.ListN.{length, replicate, length-replicate}
+use borrow.Author.Tests.{eqb-true, eqb-false}
 use Rattle.trade.specs.Limits.{most_flows, area_bytes, grant_bytes, packing}
 use Rattle.trade.specs.First.{first}
 use Rattle.trade.specs.Facts.{Facts, said}
@@ -68,7 +68,7 @@ module _ (b area : List ℕ) (place : ℕ) where
     few = (book_valid b (first_of_passed book_rules no_number b opened)).flows
 
     lent : grant_bytes * (said b).flows ≤ length grants
-    lent = rw length_replicate (omega arith)
+    lent = rw length-replicate (omega arith)
 
     slot_tells : area_bytes ≤ length area → Fits (ask_of asking)
     unfolding told_in
@@ -88,7 +88,7 @@ module _ (b area : List ℕ) (place : ℕ) where
   ask_number =
       ⊎_elim
       (λ (d : eqb (read_answer b).code 0 ≡ true).
-      let opened : (read_answer b).code ≡ 0 = eqb_true (read_answer b).code 0 d in
+      let opened : (read_answer b).code ≡ 0 = eqb-true (read_answer b).code 0 d in
       ⊎_elim (area_short opened) (slot_tells opened) (lt_or_ge (length area) area_bytes))
-      (λ (d : eqb (read_answer b).code 0 ≡ false). book_bad (eqb_false (read_answer b).code 0 d))
+      (λ (d : eqb (read_answer b).code 0 ≡ false). book_bad (eqb-false (read_answer b).code 0 d))
       (bool_cases (eqb (read_answer b).code 0))

@@ -1,7 +1,7 @@
 -- The grant set holds the grants that were made: none at first, and one more with each. Leans on Bits. Assumes nothing.
 use Prim.Native.Nat.{ℕ, ◌^◌, ◌<◌}
 use mathlib.Core.Path.{◌≡◌, refl, sym, ◌∙◌, ap}
-use mathlib.Core.Bool.{Bool, true, false, ◌||◌, or_assoc, or_false, or_true}
+use mathlib.Core.Bool.{Bool, true, false, ◌||◌, or_assoc, or-false, or-true}
 use mathlib.Core.List.{List, [], ◌∷◌, ◌++◌}
 use lib.Dec.{eqb}
 use lib.Bits.{bit_or, and_zero_r}
@@ -32,11 +32,11 @@ three p p₁ q q₁ r r₁ = ap (λ (e : Bool). e || (r || r₁)) (or_pairs p p�
 -- the tests of one grant, in the order of the conflict
 of_one : (ca cb da db ad cb' bc da' : Bool) → ((((((ca || da) || da') || ((cb || db) || cb')) || ad) || bc) ≡ (ca || cb || da || db || ad || cb' || bc || da'))
 of_one true cb da db ad cb' bc da' = refl
-of_one false true da db ad cb' bc da' = rw (or_true (da || da')) refl
+of_one false true da db ad cb' bc da' = rw (or-true (da || da')) refl
 of_one false false true db ad cb' bc da' = refl
-of_one false false false true ad cb' bc da' = rw (or_true da') refl
-of_one false false false false true cb' bc da' = rw (or_true (da' || cb')) refl
-of_one false false false false false true bc da' = rw (or_true da') refl
+of_one false false false true ad cb' bc da' = rw (or-true da') refl
+of_one false false false false true cb' bc da' = rw (or-true (da' || cb')) refl
+of_one false false false false false true bc da' = rw (or-true da') refl
 of_one false false false false false false true true = refl
 of_one false false false false false false true false = refl
 of_one false false false false false false false true = refl
@@ -59,7 +59,7 @@ conflicts_last :
     (disturbs : ℕ → ℕ → Bool) (us : List Transmission) (u t : Transmission)
     → conflicts_with disturbs (us ++ (u ∷ [])) t ≡ (conflicts_with disturbs us t || conflict disturbs u t)
 unfolding conflicts_with
-conflicts_last disturbs [] u t = or_false (conflict disturbs u t)
+conflicts_last disturbs [] u t = or-false (conflict disturbs u t)
 conflicts_last disturbs (x ∷ us) u t =
     ap (λ (e : Bool). conflict disturbs x t || e) (conflicts_last disturbs us u t)
     ∙ sym (or_assoc (conflict disturbs x t) (conflicts_with disturbs us t) (conflict disturbs u t))

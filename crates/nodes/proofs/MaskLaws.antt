@@ -5,11 +5,11 @@ use mathlib.Core.Bool.{Bool, true, false, not, cond, ◌&&◌, ◌||◌}
 use mathlib.Core.Logic.{◌⊎◌, inl, inr, ⊎_elim}
 use mathlib.Core.List.{List}
 use native.Mathlib.Omega.{arith}
-use native.Mathlib.Nat.{div_one, zero_div, pow_suc, mod_lt, mul_mod_left, mul_div_cancel, add_zero, zero_add, suc_add, mul_assoc, zero_mul, one_mul, mod_eq_of_lt}
-use native.Mathlib.Numerals.{one_add}
-use lib.Dec.{eqb, eqb_zero_suc, eqb_suc_zero, eqb_suc_suc}
+use native.Mathlib.Nat.{div-one, zero-div, pow-suc, mod-lt, mul-mod_left, mul-div_cancel, add-zero, zero-add, suc-add, mul_assoc, zero-mul, one-mul, mod-eq_of_lt}
+use native.Mathlib.Numerals.{one-add}
+use lib.Dec.{eqb, eqb-zero-suc, eqb-suc-zero, eqb-suc-suc}
 use lib.Bits.{bit_or, bit_and, bit_xor, or_shr, or_mod, and_shr, and_mod, xor_shr, xor_mod, and_block, and_mask, and_zero_r, or_add_and, and_le_r, block_half, block_odd}
-use lib.Pow.{pow_pos, pow_lt, shr_shr, split, high}
+use lib.Pow.{pow_pos, pow-lt, shr-shr, split, high}
 use lib.Arith.{bin_ind, digits_lt}
 use borrow.Author.Tests.{ne_eqb}
 use Rattle.trade.specs.Limits.{row_bytes, most_nodes}
@@ -22,19 +22,19 @@ use Rattle.nodes.specs.Mask.{only, meets, low_first, row_mask}
 -- the lowest bit, and the others
 pub bit_zero : (n : ℕ) → bit n 0 ≡ eqb (n % 2) 1
 unfolding bit
-bit_zero n = rw div_one
+bit_zero n = rw div-one
 
 pub bit_suc : (n y : ℕ) → bit n (suc y) ≡ bit (n / 2) y
 unfolding bit
-bit_suc n y = rw (shr_shr n 1 y, one_add)
+bit_suc n y = rw (shr-shr n 1 y, one-add)
 
 pub bit_none : (y : ℕ) → bit 0 y ≡ false
 unfolding bit
-bit_none y = rw zero_div
+bit_none y = rw zero-div
 
 -- a number's last bit is 0 or 1
 pub last_cases : (n : ℕ) → (n % 2 ≡ 0) ⊎ (n % 2 ≡ 1)
-last_cases n = ⊎_elim (λ (h : n % 2 < 1). inl (omega arith)) (λ (h : 1 ≤ n % 2). inr (omega (arith, mod_lt n {m = 2} (omega arith)))) (lt_or_ge (n % 2) 1)
+last_cases n = ⊎_elim (λ (h : n % 2 < 1). inl (omega arith)) (λ (h : 1 ≤ n % 2). inr (omega (arith, mod-lt n {m = 2} (omega arith)))) (lt_or_ge (n % 2) 1)
 
 last_one : (n : ℕ) → n % 2 ≡ one (eqb (n % 2) 1)
 unfolding one
@@ -89,9 +89,9 @@ bit_xor = bit_by bit_xor (λ p q. cond p (not q) q) xor_shr xor_mod last
 -- the set of one node has that node alone
 pub bit_only : (x y : ℕ) → bit (only x) y ≡ eqb x y
 bit_only zero zero = bit_zero 1
-bit_only zero (suc y) = bit_suc 1 y ∙ bit_none y ∙ sym (eqb_zero_suc y)
-bit_only (suc x) zero = bit_zero (2 ^ suc x) ∙ rw (pow_suc 2 x, mul_mod_left (2 ^ x) 2, eqb_suc_zero)
-bit_only (suc x) (suc y) = bit_suc (2 ^ suc x) y ∙ rw (pow_suc 2 x, mul_div_cancel (2 ^ x) {n = 2} (omega arith), eqb_suc_suc) (bit_only x y)
+bit_only zero (suc y) = bit_suc 1 y ∙ bit_none y ∙ sym (eqb-zero-suc y)
+bit_only (suc x) zero = bit_zero (2 ^ suc x) ∙ rw (pow-suc 2 x, mul-mod_left (2 ^ x) 2, eqb-suc-zero)
+bit_only (suc x) (suc y) = bit_suc (2 ^ suc x) y ∙ rw (pow-suc 2 x, mul-div_cancel (2 ^ x) {n = 2} (omega arith), eqb-suc-suc) (bit_only x y)
 
 -- the bits of a number and of one that stands above it
 pub bit_below : (a r k y : ℕ) → y < k → bit (a * 2 ^ k + r) y ≡ bit r y
@@ -105,7 +105,7 @@ bit_below a r (suc k) (suc y) h =
 
 pub bit_above : (a r k y : ℕ) → r < 2 ^ k → bit (a * 2 ^ k + r) (k + y) ≡ bit a y
 unfolding bit
-bit_above a r k y h = rw (← shr_shr (a * 2 ^ k + r) k y, high a k h)
+bit_above a r k y h = rw (← shr-shr (a * 2 ^ k + r) k y, high a k h)
 
 -- a set has no node at or above a place that its number is below
 pub bit_past : (n k y : ℕ) → n < 2 ^ k → k ≤ y → bit n y ≡ false
@@ -116,7 +116,7 @@ bit_past n k y h l =
 
 -- one bit of so many, shifted to its place; of 64
 pub one_bit_of : (bits p : ℕ) → p < bits → 1 * 2 ^ p % 2 ^ bits ≡ only p
-one_bit_of bits p l = rw one_mul (mod_eq_of_lt (pow_lt {j = bits} l))
+one_bit_of bits p l = rw one-mul (mod-eq_of_lt (pow-lt {j = bits} l))
 
 pub one_bit : (p : ℕ) → p < 64 → 1 * 2 ^ p % 2 ^ 64 ≡ only p
 one_bit p l = one_bit_of 64 p l
@@ -155,17 +155,17 @@ bit_low_first bytes small (suc k) at y h = ⊎_elim low (next (λ z l. bit_low_f
 low_first_lt : (bytes : List ℕ) → ((i : ℕ) → byte bytes i < 2 ^ 8) → (k at : ℕ) → low_first bytes at k < (2 ^ 8) ^ k
 unfolding low_first
 low_first_lt bytes small zero at = omega arith
-low_first_lt bytes small (suc k) at = rw (pow_suc (2 ^ 8) k) (digits_lt (low_first_lt bytes small k (suc at)) (small at))
+low_first_lt bytes small (suc k) at = rw (pow-suc (2 ^ 8) k) (digits_lt (low_first_lt bytes small k (suc at)) (small at))
 
 -- a run of bytes in two parts
 low_first_split :
     (bytes : List ℕ) (j k at : ℕ)
     → low_first bytes at (j + k) ≡ low_first bytes (at + j) k * (2 ^ 8) ^ j + low_first bytes at j
 unfolding low_first
-low_first_split bytes zero k at = rw (zero_add k, add_zero at) (omega arith)
+low_first_split bytes zero k at = rw (zero-add k, add-zero at) (omega arith)
 low_first_split bytes (suc j) k at =
     let e : suc at + j ≡ at + suc j = omega arith in
-    rw (suc_add j k, pow_suc (2 ^ 8) j, low_first_split bytes j k (suc at), e, ← mul_assoc (low_first bytes (at + suc j) k) ((2 ^ 8) ^ j) (2 ^ 8)) (omega arith)
+    rw (suc-add j k, pow-suc (2 ^ 8) j, low_first_split bytes j k (suc at), e, ← mul_assoc (low_first bytes (at + suc j) k) ((2 ^ 8) ^ j) (2 ^ 8)) (omega arith)
 
 -- a run of one byte
 pub one_byte : (bytes : List ℕ) (at : ℕ) → byte bytes at ≡ low_first bytes at 1
@@ -223,7 +223,7 @@ or_none : (a b : ℕ) → eqb (bit_or a b) 0 ≡ (eqb a 0 && eqb b 0)
 or_none zero b = refl
 or_none (suc a) b =
     ne_eqb (bit_or (suc a) b) 0 (λ (e : bit_or (suc a) b ≡ 0). omega (arith, or_add_and (suc a) b, and_le_r (suc a) b))
-    ∙ sym (ap (λ (t : Bool). t && eqb b 0) (eqb_suc_zero a))
+    ∙ sym (ap (λ (t : Bool). t && eqb b 0) (eqb-suc-zero a))
 
 not_and : (p q : Bool) → not (p && q) ≡ (not p || not q)
 not_and true q = refl
@@ -239,17 +239,17 @@ meets_or r a b =
 and_only : (r x : ℕ) → bit_and r (only x) ≡ (r / 2 ^ x % 2) * 2 ^ x
 and_only r x =
     ap₂ bit_and (sym (split r x)) (omega arith)
-    ∙ and_block x (r / 2 ^ x) 1 (r % 2 ^ x) 0 (mod_lt r (pow_pos x)) (pow_pos x)
+    ∙ and_block x (r / 2 ^ x) 1 (r % 2 ^ x) 0 (mod-lt r (pow_pos x)) (pow_pos x)
     ∙ ap₂ (λ (m n : ℕ). m * 2 ^ x + n) (and_mask (r / 2 ^ x) 1) (and_zero_r (r % 2 ^ x))
-    ∙ add_zero ((r / 2 ^ x % 2) * 2 ^ x)
+    ∙ add-zero ((r / 2 ^ x % 2) * 2 ^ x)
 
 pub meets_only : (r x : ℕ) → meets r (only x) ≡ bit r x
 unfolding bit
 meets_only r x = ap (λ (n : ℕ). not (eqb n 0)) (and_only r x) ∙ cases (last_cases (r / 2 ^ x))
   where
     cases : (r / 2 ^ x % 2 ≡ 0) ⊎ (r / 2 ^ x % 2 ≡ 1) → not (eqb ((r / 2 ^ x % 2) * 2 ^ x) 0) ≡ eqb (r / 2 ^ x % 2) 1
-    cases (inl e) = rw (e, zero_mul)
-    cases (inr e) = rw (e, one_mul, ne_eqb (2 ^ x) 0 (λ (z : 2 ^ x ≡ 0). omega (arith, pow_pos x)))
+    cases (inl e) = rw (e, zero-mul)
+    cases (inr e) = rw (e, one-mul, ne_eqb (2 ^ x) 0 (λ (z : 2 ^ x ≡ 0). omega (arith, pow_pos x)))
 
 -- sets that have the same nodes are the same
 same_last : (a b : ℕ) → bit a 0 ≡ bit b 0 → a % 2 ≡ b % 2

@@ -1,12 +1,12 @@
 -- Bytes put into a part of a buffer, and several put one behind the other. Leans on Words. Assumes nothing.
 use Prim.Native.Nat.{ℕ, zero, suc, ◌+◌, ◌-◌, ◌≤◌}
 use mathlib.Core.Path.{◌≡◌, sym, ◌∙◌, ap, ap₂}
-use mathlib.Core.List.{List, ◌++◌, append_assoc, append_nil}
-use native.Mathlib.Nat.{zero_add}
+use mathlib.Core.List.{List, ◌++◌, append_assoc, append-nil}
+use native.Mathlib.Nat.{zero-add}
 use native.Mathlib.Omega.{arith}
-use lib.ListN.{length, take, drop, length_append, replicate, drop_of_length_le}
-use lib.Seq.{length_take_le, take_length, drop_drop, take_append_seam, drop_append_add}
-use borrow.Rule.Slice.PartMut.{put_mid, Post_is}
+use lib.ListN.{length, take, drop, length-append, replicate, drop_of_length-le}
+use lib.Seq.{length-take-le, take-length, drop-drop, take-append_seam, drop-append-add}
+use borrow.Rule.Slice.PartMut.{put_mid, Post-is}
 use Rattle.trade.specs.Bytes.{over, padded}
 use Rattle.numbers.specs.Pasting.{pasted_at}
 use Rattle.numbers.proofs.NumbersLaws.{part_tail}
@@ -19,12 +19,12 @@ pub pasted :
 unfolding pasted_at
 pasted at src d h =
     rw (
-      Post_is at (length d) d (omega arith),
-      drop_of_length_le d {i = length d} (omega arith),
+      Post-is at (length d) d (omega arith),
+      drop_of_length-le d {i = length d} (omega arith),
       part_tail at d,
-      take_length src,
-      drop_drop (length src) at d,
-      append_nil (src ++ drop (at + length src) d),
+      take-length src,
+      drop-drop (length src) at d,
+      append-nil (src ++ drop (at + length src) d),
     )
     (sym (append_assoc (take at d) src (drop (at + length src) d)))
 
@@ -33,10 +33,10 @@ pub pasted_next : (front src d : List ℕ) → pasted_at (length front) src (ove
 unfolding pasted_at over
 pasted_next front src d =
     rw (
-      take_append_seam front (drop (length front) d),
-      drop_append_add front (drop (length front) d) (length src),
-      drop_drop (length src) (length front) d,
-      length_append front src,
+      take-append_seam front (drop (length front) d),
+      drop-append-add front (drop (length front) d) (length src),
+      drop-drop (length src) (length front) d,
+      length-append front src,
     )
 
 pub pasted_behind :
@@ -52,21 +52,21 @@ unfolding pasted_at
 pasted_on at a b d h =
     let front : List ℕ = take at d ++ a in
     let ends : length (take at d ++ a) + length b ≡ at + (length a + length b) =
-    rw (length_append, length_take_le at d (omega arith)) (omega arith) in
-    let size : at + length a ≡ length front = sym (length_append (take at d) a ∙ ap (λ (k : ℕ). k + length a) (length_take_le at d (omega arith))) in
+    rw (length-append, length-take-le at d (omega arith)) (omega arith) in
+    let size : at + length a ≡ length front = sym (length-append (take at d) a ∙ ap (λ (k : ℕ). k + length a) (length-take-le at d (omega arith))) in
     rw (
       size,
-      take_append_seam front (drop (length front) d),
-      drop_append_add front (drop (length front) d) (length b),
-      drop_drop (length b) (length front) d,
-      length_append a b,
+      take-append_seam front (drop (length front) d),
+      drop-append-add front (drop (length front) d) (length b),
+      drop-drop (length b) (length front) d,
+      length-append a b,
     )
     (ap₂ (λ (x : List ℕ) (k : ℕ). x ++ drop k d) (append_assoc (take at d) a b) ends)
 
 -- what is put at the front of the buffer
 pub pasted_first : (src d : List ℕ) → pasted_at 0 src d ≡ over src d
 unfolding pasted_at over
-pasted_first src d = ap (λ (k : ℕ). src ++ drop k d) (zero_add (length src))
+pasted_first src d = ap (λ (k : ℕ). src ++ drop k d) (zero-add (length src))
 
 -- a copy over zeros leaves zeros behind it
 zeros : (m n : ℕ) → m ≡ n → ◌≡◌ {A = List ℕ} (replicate m 0) (replicate n 0)
@@ -83,4 +83,4 @@ over_zeros room bytes = rw (drop_zeros (length bytes) room)
 
 pub copied_over_zeros : (room : ℕ) (src : List ℕ) → take (length src) src ++ drop (length src) (replicate room 0) ≡ padded room src
 unfolding padded
-copied_over_zeros room src = rw (take_length src, drop_zeros (length src) room)
+copied_over_zeros room src = rw (take-length src, drop_zeros (length src) room)

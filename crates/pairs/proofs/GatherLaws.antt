@@ -1,10 +1,10 @@
 -- The figure that the columns of a plan l give for a plan h is that of the two plans. Leans on the trade's Interference. Assumes nothing.
 use Prim.Native.Nat.{ℕ, suc, ◌-◌, ◌*◌, ◌≤◌, ◌<◌}
 use mathlib.Core.Path.{◌≡◌, refl, sym, ◌∙◌, ap}
-use mathlib.Core.Bool.{Bool, true, false, ◌||◌, or_true}
+use mathlib.Core.Bool.{Bool, true, false, ◌||◌, or-true}
 use mathlib.Core.List.{List}
 use native.Mathlib.Omega.{arith}
-use borrow.Author.Tests.{ne_eqb, lt_ltb, le_ltb}
+use borrow.Author.Tests.{ne_eqb, lt-ltb, le-ltb}
 use lib.Dec.{eqb}
 use lib.ListN.{length}
 use Rattle.trade.specs.Limits.{most_steps, step_bytes}
@@ -22,9 +22,9 @@ use Rattle.pairs.specs.Columns.{marks_of, from_end, Hears, near, receiving, send
 reorder : (p q r s t u x y : Bool) → (false || false || p || q || r || s || t || u || x || y) ≡ ((p || q || (x || u)) || (r || s || (t || y)))
 reorder true q r s t u x y = refl
 reorder false true r s t u x y = refl
-reorder false false true s t u x y = sym (or_true (x || u))
-reorder false false false true t u x y = sym (or_true (x || u))
-reorder false false false false true u x y = sym (or_true (x || u))
+reorder false false true s t u x y = sym (or-true (x || u))
+reorder false false false true t u x y = sym (or-true (x || u))
+reorder false false false false true u x y = sym (or-true (x || u))
 reorder false false false false false true true y = refl
 reorder false false false false false true false y = refl
 reorder false false false false false false true y = refl
@@ -67,12 +67,12 @@ module _ (rows heard : List ℕ) where
         → marked_at columns t b ≡ conflict (disturbs_in rows) t (from_end h b)
     unfolding marked_at
     marked_conflict t b p sender receiver l =
-        rw (c.sent t.sender.0 b p.sender.numbered, c.received t.receiver.0 b p.receiver.numbered (omega arith), lt_ltb b (steps_in h) l)
+        rw (c.sent t.sender.0 b p.sender.numbered, c.received t.receiver.0 b p.receiver.numbered (omega arith), lt-ltb b (steps_in h) l)
         (sym (conflict_parts t (from_end h b) p (all (steps_in h - suc b) (omega arith)) sender receiver))
 
     pub columns_narrow : Narrow (steps_in h) columns
     unfolding marked_at
-    columns_narrow t b p q l m = rw (c.sent t.sender.0 b p, c.received t.receiver.0 b q m, le_ltb b (steps_in h) l) refl
+    columns_narrow t b p q l m = rw (c.sent t.sender.0 b p, c.received t.receiver.0 b q m, le-ltb b (steps_in h) l) refl
 
 -- THE FIGURE BY COLUMNS
 pub figure_by_columns :

@@ -1,17 +1,17 @@
 -- Marks spread over the nodes of sets, and collected from them: the columns of a plan. Leans on Bits and Counts. Assumes nothing.
 use Prim.Native.Nat.{ℕ, suc, ◌+◌, ◌-◌, ◌/◌, ◌%◌, ◌^◌, ◌≤◌, ◌<◌}
 use mathlib.Core.Path.{◌≡◌, refl, sym, ◌∙◌, ap, ap₂}
-use mathlib.Core.Bool.{Bool, true, false, not, cond, ◌&&◌, ◌||◌, or_comm, or_false, or_assoc, and_false, and_true}
+use mathlib.Core.Bool.{Bool, true, false, not, cond, ◌&&◌, ◌||◌, or_comm, or-false, or_assoc, and-false, and-true}
 use mathlib.Core.Logic.{◌⊎◌, inl, inr, ⊎_elim}
 use mathlib.Core.List.{List}
 use native.Mathlib.Omega.{arith}
-use borrow.Author.Tests.{eqb_true, eq_eqb, ne_eqb, lt_ltb, le_ltb}
+use borrow.Author.Tests.{eqb-true, eq-eqb, ne_eqb, lt-ltb, le-ltb}
 use lib.Bits.{bit_or, bit_and, bit_xor, or_zero_r}
 use lib.Dec.{eqb, ltb}
-use lib.Pow.{pow_pos, shr_shr, split}
-use native.Mathlib.Nat.{mod_lt}
-use lib.ListN.{length, get_or, set, replicate, length_set, length_replicate, get_or_replicate, get_or_eq_default}
-use lib.Seq.{get_or_set_same, get_or_set_other}
+use lib.Pow.{pow_pos, shr-shr, split}
+use native.Mathlib.Nat.{mod-lt}
+use lib.ListN.{length, get_or, set, replicate, length-set, length-replicate, get_or-replicate, get_or-eq_default}
+use lib.Seq.{get_or-set_same, get_or-set_other}
 use Rattle.trade.specs.First.{some}
 use Rattle.trade.specs.Bytes.{bit}
 use Rattle.trade.specs.Limits.{most_nodes, most_steps}
@@ -26,8 +26,8 @@ use Rattle.nodes.proofs.LowestLaws.{Lowest}
 -- so many zeros, and zeros past them
 pub zeros : (n i : ℕ) → get_or {A = ℕ} (replicate n 0) i 0 ≡ 0
 zeros n i =
-    ⊎_elim (λ (h : i < n). get_or_replicate n i 0 0 h)
-    (λ (h : n ≤ i). get_or_eq_default (replicate n 0) 0 (rw (length_replicate {A = ℕ} n 0) h))
+    ⊎_elim (λ (h : i < n). get_or-replicate n i 0 0 h)
+    (λ (h : n ≤ i). get_or-eq_default (replicate n 0) 0 (rw (length-replicate {A = ℕ} n 0) h))
     (lt_or_ge i n)
 
 -- what is left without its lowest is left
@@ -61,21 +61,21 @@ module _ (nodes mark : ℕ) (before : List ℕ) where
       → Spreading nodes mark (bit_and rest (rest - 1)) before (set table p (bit_or (get_or table p 0) mark))
   spreading_more rest p table low l s =
       record {
-        size = length_set table p (bit_or (get_or table p 0) mark) ∙ s.size;
+        size = length-set table p (bit_or (get_or table p 0) mark) ∙ s.size;
         within = λ x e. s.within x (left_over rest p low x e);
         marked = λ x. other x (lt_or_ge x p) (lt_or_ge p x);
       }
     where
       apart : (x : ℕ) → (p ≡ x → ⊥) → get_or (set table p (bit_or (get_or table p 0) mark)) x 0 ≡ bit_or (get_or before x 0) (cond (bit nodes x && not (bit (bit_and rest (rest - 1)) x)) mark 0)
       apart x n =
-          let same : bit (bit_and rest (rest - 1)) x ≡ bit rest x = low.cleared x ∙ rw (ne_eqb p x n) (and_true (bit rest x)) in
-          get_or_set_other table p x (bit_or (get_or table p 0) mark) 0 (λ e. n (sym e)) ∙ rw same (s.marked x)
+          let same : bit (bit_and rest (rest - 1)) x ≡ bit rest x = low.cleared x ∙ rw (ne_eqb p x n) (and-true (bit rest x)) in
+          get_or-set_other table p x (bit_or (get_or table p 0) mark) 0 (λ e. n (sym e)) ∙ rw same (s.marked x)
 
       here : get_or (set table p (bit_or (get_or table p 0) mark)) p 0 ≡ bit_or (get_or before p 0) (cond (bit nodes p && not (bit (bit_and rest (rest - 1)) p)) mark 0)
       here =
-          let gone : bit (bit_and rest (rest - 1)) p ≡ false = low.cleared p ∙ rw (eq_eqb p p refl, low.set) refl in
+          let gone : bit (bit_and rest (rest - 1)) p ≡ false = low.cleared p ∙ rw (eq-eqb p p refl, low.set) refl in
           let left : get_or table p 0 ≡ get_or before p 0 = s.marked p ∙ rw (low.set, s.within p low.set) (or_zero_r (get_or before p 0)) in
-          get_or_set_same table p (bit_or (get_or table p 0) mark) 0 l ∙ rw (left, gone, s.within p low.set) refl
+          get_or-set_same table p (bit_or (get_or table p 0) mark) 0 l ∙ rw (left, gone, s.within p low.set) refl
 
       other : (x : ℕ) → (x < p) ⊎ (p ≤ x) → (p < x) ⊎ (x ≤ p) → get_or (set table p (bit_or (get_or table p 0) mark)) x 0 ≡ bit_or (get_or before x 0) (cond (bit nodes x && not (bit (bit_and rest (rest - 1)) x)) mark 0)
       other x (inl h) g = apart x (λ e. omega arith)
@@ -100,22 +100,22 @@ unfolding bit
 halves_or sent received b fits = bit_or (sent / 2 ^ 32) (received % 2 ^ 32) b ∙ ⊎_elim inside past (lt_or_ge b 32)
   where
     upper : bit (sent / 2 ^ 32) b ≡ bit sent (32 + b)
-    upper = ap (λ (n : ℕ). eqb (n % 2) 1) (shr_shr sent 32 b)
+    upper = ap (λ (n : ℕ). eqb (n % 2) 1) (shr-shr sent 32 b)
 
     lower : b < 32 → bit (received % 2 ^ 32) b ≡ bit received b
     lower h = sym (ap (λ (n : ℕ). bit n b) (sym (split received 32)) ∙ bit_below (received / 2 ^ 32) (received % 2 ^ 32) 32 b h)
 
     inside : b < 32 → (bit (sent / 2 ^ 32) b || bit (received % 2 ^ 32) b) ≡ (ltb b 32 && (bit sent (32 + b) || bit received b))
-    inside h = rw (lt_ltb b 32 h, upper, lower h) refl
+    inside h = rw (lt-ltb b 32 h, upper, lower h) refl
 
     past : 32 ≤ b → (bit (sent / 2 ^ 32) b || bit (received % 2 ^ 32) b) ≡ (ltb b 32 && (bit sent (32 + b) || bit received b))
     past h =
-        rw (le_ltb b 32 h, upper, bit_past sent 64 (32 + b) fits (omega arith), bit_past (received % 2 ^ 32) 32 b (mod_lt received (pow_pos 32)) h) refl
+        rw (le-ltb b 32 h, upper, bit_past sent 64 (32 + b) fits (omega arith), bit_past (received % 2 ^ 32) 32 b (mod-lt received (pow_pos 32)) h) refl
 
 -- a bit of a mark that is set or not
 bit_mark : (c : Bool) (b y : ℕ) → bit (cond c (2 ^ b) 0) y ≡ (eqb b y && c)
-bit_mark true b y = bit_only b y ∙ sym (and_true (eqb b y))
-bit_mark false b y = bit_none y ∙ sym (and_false (eqb b y))
+bit_mark true b y = bit_only b y ∙ sym (and-true (eqb b y))
+bit_mark false b y = bit_none y ∙ sym (and-false (eqb b y))
 
 -- what a mark spread over a set adds to the bits of a node
 pub spread_bit :
@@ -133,11 +133,11 @@ upto_next : (f : ℕ → Bool) (x k : ℕ) → ((ltb k x && f k) || (eqb x k && 
 upto_next f x k = cases (lt_or_ge k x) (lt_or_ge x k)
   where
     cases : (k < x) ⊎ (x ≤ k) → (x < k) ⊎ (k ≤ x) → ((ltb k x && f k) || (eqb x k && f x)) ≡ (ltb k (suc x) && f k)
-    cases (inl h) g = rw (lt_ltb k x h, lt_ltb k (suc x) (omega arith), ne_eqb x k (λ e. omega arith)) (or_false (f k))
-    cases (inr h) (inl g) = rw (le_ltb k x h, le_ltb k (suc x) g, ne_eqb x k (λ e. omega arith)) refl
+    cases (inl h) g = rw (lt-ltb k x h, lt-ltb k (suc x) (omega arith), ne_eqb x k (λ e. omega arith)) (or-false (f k))
+    cases (inr h) (inl g) = rw (le-ltb k x h, le-ltb k (suc x) g, ne_eqb x k (λ e. omega arith)) refl
     cases (inr h) (inr g) =
         let e : x ≡ k = omega arith in
-        rw (e, le_ltb k k (omega arith), eq_eqb k k refl, lt_ltb k (suc k) (omega arith)) refl
+        rw (e, le-ltb k k (omega arith), eq-eqb k k refl, lt-ltb k (suc k) (omega arith)) refl
 
 -- at some index, or at the next
 some_next : (test : ℕ → Bool) (n : ℕ) → some test (suc n) ≡ (some test n || test n)
@@ -213,8 +213,8 @@ module _ (u : Transmission) where
           ∙ rw (bit_and receivers senders x) (ap (λ (t : Bool). bit (get_or before x 0) y || t) (marks (bit receivers x && bit senders x) y))
         where
           marks : (c : Bool) (y : ℕ) → bit (cond c (bit_or (2 ^ b) (2 ^ (most_steps + b))) 0) y ≡ ((eqb b y || eqb (most_steps + b) y) && c)
-          marks true y = bit_or (2 ^ b) (2 ^ (most_steps + b)) y ∙ ap₂ ◌||◌ (bit_only b y) (bit_only (most_steps + b) y) ∙ sym (and_true (eqb b y || eqb (most_steps + b) y))
-          marks false y = bit_none y ∙ sym (and_false (eqb b y || eqb (most_steps + b) y))
+          marks true y = bit_or (2 ^ b) (2 ^ (most_steps + b)) y ∙ ap₂ ◌||◌ (bit_only b y) (bit_only (most_steps + b) y) ∙ sym (and-true (eqb b y || eqb (most_steps + b) y))
+          marks false y = bit_none y ∙ sym (and-false (eqb b y || eqb (most_steps + b) y))
 
       at :
           (x y : ℕ)
@@ -266,13 +266,13 @@ module _ (rows heard plan : List ℕ) (b : ℕ) (before after : List ℕ) where
             λ x k h m.
             n.bits x k h
             ∙ rw (ne_eqb (most_steps + b) k (λ e. omega arith), c.received x k h m)
-            (or_false ((ltb k b && receiving rows heard (from_end plan k) x) || (eqb b k && receiving rows heard (from_end plan b) x)))
+            (or-false ((ltb k b && receiving rows heard (from_end plan k) x) || (eqb b k && receiving rows heard (from_end plan b) x)))
             ∙ upto_next (λ (i : ℕ). receiving rows heard (from_end plan i) x) b k;
         sent =
             λ x k h.
             n.bits x (most_steps + k) h
             ∙ rw (ne_eqb b (most_steps + k) (λ e. omega arith), shifted k, c.sent x k h)
-            (ap (λ (t : Bool). t || (eqb b k && sending rows heard (from_end plan b) x)) (or_false (ltb k b && sending rows heard (from_end plan k) x)))
+            (ap (λ (t : Bool). t || (eqb b k && sending rows heard (from_end plan b) x)) (or-false (ltb k b && sending rows heard (from_end plan k) x)))
             ∙ upto_next (λ (i : ℕ). sending rows heard (from_end plan i) x) b k;
       }
     where
@@ -283,13 +283,13 @@ module _ (rows heard plan : List ℕ) (b : ℕ) (before after : List ℕ) where
           off p q = ne_eqb (most_steps + b) (most_steps + k) q ∙ sym (ne_eqb b k p)
 
           on : b ≡ k → eqb (most_steps + b) (most_steps + k) ≡ eqb b k
-          on e = eq_eqb (most_steps + b) (most_steps + k) (ap (λ (n : ℕ). most_steps + n) e) ∙ sym (eq_eqb b k e)
+          on e = eq-eqb (most_steps + b) (most_steps + k) (ap (λ (n : ℕ). most_steps + n) e) ∙ sym (eq-eqb b k e)
 
 pub columns_none : (rows heard plan columns : List ℕ) → ((x : ℕ) → x < most_nodes → get_or columns x 0 ≡ 0) → Columns rows heard plan 0 columns
 columns_none rows heard plan columns z =
     record {
-      received = λ x b h m. rw (z x h, le_ltb b 0 (omega arith)) (bit_none b);
-      sent = λ x b h. rw (z x h, le_ltb b 0 (omega arith)) (bit_none (most_steps + b));
+      received = λ x b h m. rw (z x h, le-ltb b 0 (omega arith)) (bit_none b);
+      sent = λ x b h. rw (z x h, le-ltb b 0 (omega arith)) (bit_none (most_steps + b));
     }
 
 -- WHO IS HEARD: the nodes that are not left have been spread over those that they disturb
@@ -329,7 +329,7 @@ module _ (rows : List ℕ) (nodes : ℕ) (before : List ℕ) where
             λ y x h.
             spread_bit (row_mask rows p) p table after s y x
             ∙ ap₂ (λ (t u : Bool). t || (eqb p x && u)) (g.bits y x h) (row y h)
-            ∙ ⊎_elim (λ (q : eqb p x ≡ true). here y x (eqb_true p x q)) (λ (q : eqb p x ≡ false). apart y x q) (bool_cases (eqb p x));
+            ∙ ⊎_elim (λ (q : eqb p x ≡ true). here y x (eqb-true p x q)) (λ (q : eqb p x ≡ false). apart y x q) (bool_cases (eqb p x));
         others = λ y h. s.others y h ∙ g.others y h;
       }
     where
@@ -338,19 +338,19 @@ module _ (rows : List ℕ) (nodes : ℕ) (before : List ℕ) where
           → p ≡ x
           → (((bit nodes x && not (bit rest x)) && disturbs_in rows x y) || (eqb p x && disturbs_in rows p y))
           ≡ ((bit nodes x && not (bit (bit_and rest (rest - 1)) x)) && disturbs_in rows x y)
-      here y x q = rw (← q, low.cleared p, eq_eqb p p refl, low.set, g.within p low.set) refl
+      here y x q = rw (← q, low.cleared p, eq-eqb p p refl, low.set, g.within p low.set) refl
 
       apart :
           (y x : ℕ)
           → eqb p x ≡ false
           → (((bit nodes x && not (bit rest x)) && disturbs_in rows x y) || (eqb p x && disturbs_in rows p y))
           ≡ ((bit nodes x && not (bit (bit_and rest (rest - 1)) x)) && disturbs_in rows x y)
-      apart y x q = rw (low.cleared x, q, and_true (bit rest x)) (or_false ((bit nodes x && not (bit rest x)) && disturbs_in rows x y))
+      apart y x q = rw (low.cleared x, q, and-true (bit rest x)) (or-false ((bit nodes x && not (bit rest x)) && disturbs_in rows x y))
 
   pub hearing_all : (table : List ℕ) → Hearing rows nodes 0 before table → Heard rows nodes before table
   hearing_all table g =
       record {
         size = g.size;
-        bits = λ y x h. g.bits y x h ∙ rw (bit_none x) (ap (λ (t : Bool). t && disturbs_in rows x y) (and_true (bit nodes x)));
+        bits = λ y x h. g.bits y x h ∙ rw (bit_none x) (ap (λ (t : Bool). t && disturbs_in rows x y) (and-true (bit nodes x)));
         others = g.others;
       }

@@ -5,9 +5,9 @@ use mathlib.Core.Bool.{true, false}
 use mathlib.Core.List.{List}
 use mathlib.Core.Logic.{◌⊎◌, ⊎_elim, inl, inr}
 use native.Mathlib.Omega.{arith}
-use lib.ListN.{length, get_or, set, length_set}
-use lib.Seq.{ext_get_or, get_or_set_same, get_or_set_other}
-use borrow.Author.Tests.{eqb_true}
+use lib.ListN.{length, get_or, set, length-set}
+use lib.Seq.{ext_get_or, get_or-set_same, get_or-set_other}
+use borrow.Author.Tests.{eqb-true}
 use Rattle.trade.specs.Limits.{step_bytes}
 use Rattle.trade.specs.Facts.{step_in}
 use Rattle.trade.specs.declared.node.Transmission.{Transmission}
@@ -18,7 +18,7 @@ use Rattle.plans.proofs.StepsLaws.{sent}
 -- two steps that go from the same node to the same are the same
 same_steps : (u v : Transmission) → same u v ≡ true → u ≡ v
 same_steps u v e =
-    let p = and_true _ _ e in ap₂ sent (eqb_true u.sender.0 v.sender.0 p.0) (eqb_true u.receiver.0 v.receiver.0 p.1)
+    let p = and_true _ _ e in ap₂ sent (eqb-true u.sender.0 v.sender.0 p.0) (eqb-true u.receiver.0 v.receiver.0 p.1)
 
 module _ (plan : List ℕ) where
   pub singles_none : singles plan 0 ≡ 0
@@ -105,7 +105,7 @@ module _ (plan : List ℕ) where
   unfolding step_in
   singled_new k before after e room s =
       record {
-        size = length_set (set after at a) (at + 1) b ∙ length_set after at a ∙ s.size;
+        size = length-set (set after at a) (at + 1) b ∙ length-set after at a ∙ s.size;
         steps = λ i h. ⊎_elim (old i) (λ (l : k ≤ i). here i (omega arith)) (lt_or_ge i k);
         others = λ x h. apart x (inr (omega (arith, singles_new k e))) ∙ s.others x (omega (arith, singles_new k e));
       }
@@ -124,8 +124,8 @@ module _ (plan : List ℕ) where
 
       apart : (x : ℕ) → (x < at) ⊎ (at + 1 < x) → get_or put x 0 ≡ get_or after x 0
       apart x h =
-          get_or_set_other (set after at a) (at + 1) x b 0 (λ q. ⊎_elim (λ (l : x < at). omega arith) (λ (l : at + 1 < x). omega arith) h)
-          ∙ get_or_set_other after at x a 0 (λ q. ⊎_elim (λ (l : x < at). omega arith) (λ (l : at + 1 < x). omega arith) h)
+          get_or-set_other (set after at a) (at + 1) x b 0 (λ q. ⊎_elim (λ (l : x < at). omega arith) (λ (l : at + 1 < x). omega arith) h)
+          ∙ get_or-set_other after at x a 0 (λ q. ⊎_elim (λ (l : x < at). omega arith) (λ (l : at + 1 < x). omega arith) h)
 
       old : (i : ℕ) → i < k → step_in put (place_of plan i) ≡ step_in plan i
       old i h =
@@ -138,8 +138,8 @@ module _ (plan : List ℕ) where
           let p : place_of plan k ≡ singles plan k = omega (arith, singles_new k e) in
           rw (q, p)
           (ap₂ sent
-          (get_or_set_other (set after at a) (at + 1) at b 0 (λ z. omega arith) ∙ get_or_set_same after at a 0 (omega arith))
-          (get_or_set_same (set after at a) (at + 1) b 0 (rw (length_set after at a) room)))
+          (get_or-set_other (set after at a) (at + 1) at b 0 (λ z. omega arith) ∙ get_or-set_same after at a 0 (omega arith))
+          (get_or-set_same (set after at a) (at + 1) b 0 (rw (length-set after at a) room)))
 
   -- they leave one content
   pub singled_unique : (k : ℕ) (before a b : List ℕ) → SingledTo plan k before a → SingledTo plan k before b → a ≡ b

@@ -4,9 +4,9 @@ use mathlib.Core.Path.{◌≡◌, sym, ◌∙◌, ap, ap₂}
 use mathlib.Core.List.{List, []}
 use mathlib.Core.Logic.{⊎_elim}
 use native.Mathlib.Omega.{arith}
-use lib.ListN.{length, take, drop, length_take, length_drop, drop_of_length_le}
-use lib.Seq.{get_or_take, get_or_drop, take_all, take_nil}
-use borrow.Author.Tests.{lt_ltb, le_ltb}
+use lib.ListN.{length, take, drop, length-take, length-drop, drop_of_length-le}
+use lib.Seq.{get_or-take, get_or-drop, take_all, take-nil}
+use borrow.Author.Tests.{lt-ltb, le-ltb}
 use Rattle.trade.specs.Limits.{step_bytes}
 use Rattle.trade.specs.Bytes.{byte, part}
 use Rattle.trade.specs.Facts.{step_in}
@@ -22,11 +22,11 @@ sent a b = record { sender = record { 0 = a }; receiver = record { 0 = b } }
 -- the step at a place that a part holds whole, and at any other
 pub step_held : (steps : List ℕ) (k : ℕ) → k < steps_in steps → step_or steps k ≡ step_in steps k
 unfolding step_or
-step_held steps k h = rw (lt_ltb k (steps_in steps) h)
+step_held steps k h = rw (lt-ltb k (steps_in steps) h)
 
 pub step_missing : (steps : List ℕ) (k : ℕ) → steps_in steps ≤ k → step_or steps k ≡ no_step
 unfolding step_or
-step_missing steps k h = rw (le_ltb k (steps_in steps) h)
+step_missing steps k h = rw (le-ltb k (steps_in steps) h)
 
 module _ (steps : List ℕ) (first count : ℕ) where
   -- the part of a steps section that holds so many steps from one on
@@ -35,7 +35,7 @@ module _ (steps : List ℕ) (first count : ℕ) where
 
   byte_plan : (at : ℕ) → at < step_bytes * count → byte plan at ≡ byte steps (step_bytes * first + at)
   unfolding part
-  byte_plan at h = rw (get_or_take, get_or_drop)
+  byte_plan at h = rw (get_or-take, get_or-drop)
 
   pub step_plan : (k : ℕ) → k < count → step_in plan k ≡ step_in steps (first + k)
   unfolding step_in
@@ -45,14 +45,14 @@ module _ (steps : List ℕ) (first count : ℕ) where
 
   length_part : length plan ≡ min (step_bytes * count) (length steps - step_bytes * first)
   unfolding part
-  length_part = simp (length_take, length_drop)
+  length_part = simp (length-take, length-drop)
 
   -- cut out in two parts: what is left of the section from its first step on, and of that so many steps
   abbrev rest : List ℕ
   rest = take (length steps - step_bytes * first) (drop (step_bytes * first) steps)
 
   all_left : rest ≡ drop (step_bytes * first) steps
-  all_left = take_all (length steps - step_bytes * first) (drop (step_bytes * first) steps) (rw length_drop (omega arith))
+  all_left = take_all (length steps - step_bytes * first) (drop (step_bytes * first) steps) (rw length-drop (omega arith))
 
   pub plan_cut : take (step_bytes * count) rest ≡ plan
   unfolding part
@@ -64,7 +64,7 @@ module _ (steps : List ℕ) (first count : ℕ) where
 
   pub plan_past : steps_in steps < first → [] ≡ plan
   unfolding part
-  plan_past h = rw (drop_of_length_le steps {i = step_bytes * first} (omega arith)) (sym (take_nil (step_bytes * count)))
+  plan_past h = rw (drop_of_length-le steps {i = step_bytes * first} (omega arith)) (sym (take-nil (step_bytes * count)))
 
   -- the step at any place of it is that of the section, or none
   pub step_anywhere : (j : ℕ) → step_or plan j ≡ plan_step steps first count j
@@ -74,11 +74,11 @@ module _ (steps : List ℕ) (first count : ℕ) where
       (λ (l : j < count).
       ⊎_elim
       (λ (h : first + j < steps_in steps).
-      rw (lt_ltb j count l, lt_ltb (first + j) (steps_in steps) h) (step_held plan j (omega (arith, length_part)) ∙ step_plan j l))
+      rw (lt-ltb j count l, lt-ltb (first + j) (steps_in steps) h) (step_held plan j (omega (arith, length_part)) ∙ step_plan j l))
       (λ (h : steps_in steps ≤ first + j).
-      rw (lt_ltb j count l, le_ltb (first + j) (steps_in steps) h) (step_missing plan j (omega (arith, length_part))))
+      rw (lt-ltb j count l, le-ltb (first + j) (steps_in steps) h) (step_missing plan j (omega (arith, length_part))))
       (lt_or_ge (first + j) (steps_in steps)))
-      (λ (l : count ≤ j). rw (le_ltb j count l) (step_missing plan j (omega (arith, length_part))))
+      (λ (l : count ≤ j). rw (le-ltb j count l) (step_missing plan j (omega (arith, length_part))))
       (lt_or_ge j count)
 
   module _ (fits : step_bytes * (first + count) ≤ length steps) where

@@ -5,8 +5,8 @@ use mathlib.Core.Logic.{◌↔◌}
 use mathlib.Core.List.{List}
 use native.Mathlib.Omega.{arith}
 use lib.Dec.{eqb}
-use lib.ListN.{length, get_or, length_replicate, get_or_eq_default}
-use borrow.Author.Tests.{eqb_true, eqb_false, not_true}
+use lib.ListN.{length, get_or, length-replicate, get_or-eq_default}
+use borrow.Author.Tests.{eqb-true, eqb-false, not-true}
 use Rattle.trade.specs.Limits.{most_flows}
 use Rattle.trade.specs.First.{some, list_to}
 use Rattle.trade.specs.Facts.{Facts, facts_of, said}
@@ -38,7 +38,7 @@ module _ (f : Facts) (μ : Measure) where
   unfolding bounds_by
   listed_elsewhere l h =
       byte_padded most_flows (list_to (bound_by f μ) f.flows) l
-      ∙ get_or_eq_default (list_to (bound_by f μ) f.flows) 0 (omega (arith, length_list_to (bound_by f μ) f.flows))
+      ∙ get_or-eq_default (list_to (bound_by f μ) f.flows) 0 (omega (arith, length_list_to (bound_by f μ) f.flows))
 
   listed_places : f.flows ≤ most_flows → length (bounds_by f μ) ≡ most_flows
   unfolding bounds_by
@@ -90,7 +90,7 @@ pub code9_exactly : (f : Facts) (μ : Measure) → Done (code9_by f μ) ↔ AllB
 unfolding code9_by accepted_by given_first
 code9_exactly f μ = (
   λ e. (accepted_exactly f μ).0 (rw (given_passed 8 (some (boundless_by f μ) f.flows) _ e)),
-  λ a. ap (λ (r : Answer). r.code) (given_false 9 _ _ (not_true _ ((accepted_exactly f μ).1 a))),
+  λ a. ap (λ (r : Answer). r.code) (given_false 9 _ _ (not-true _ ((accepted_exactly f μ).1 a))),
 )
 
 module _ (measured : Facts → Measure) where
@@ -109,11 +109,11 @@ module _ (measured : Facts → Measure) where
   places b =
       by_test (eqb (check_answer_by measured b).code 0)
       (λ e.
-      let accepted : Done (check_by measured b).answer = eqb_true (check_answer_by measured b).code 0 e in
+      let accepted : Done (check_by measured b).answer = eqb-true (check_answer_by measured b).code 0 e in
       ap length (reports measured b accepted) ∙ listed_places (said b) (measured (said b)) (accepted_valid measured b accepted).flows)
       (λ e.
-      ap length (refused_second (check_answer_by measured b) _ _ (eqb_false (check_answer_by measured b).code 0 e))
-      ∙ length_replicate {A = ℕ} most_flows 0)
+      ap length (refused_second (check_answer_by measured b) _ _ (eqb-false (check_answer_by measured b).code 0 e))
+      ∙ length-replicate {A = ℕ} most_flows 0)
 
   -- CHECK DECIDES BY THE MEASURE: accepted exactly when every flow has a response bound within its deadline, the bounds the smallest
   pub check_decides : DecidesBooks measured (λ b given. given ≡ check_by measured b)
@@ -167,11 +167,11 @@ module _ (t : Tabled) (right : RightFigures t) where
   right_places =
       by_test (eqb (check_kept_of t).answer.code 0)
       (λ e.
-      let c : Done (check_kept_of t).answer = eqb_true (check_kept_of t).answer.code 0 e in
+      let c : Done (check_kept_of t).answer = eqb-true (check_kept_of t).answer.code 0 e in
       ap length (right_reports c) ∙ listed_places facts (measure facts) (table_valid t.sections (kept_formed kept_measure t c)).flows)
       (λ e.
-      ap length (refused_second (check_kept_of t).answer _ _ (eqb_false (check_kept_of t).answer.code 0 e))
-      ∙ length_replicate {A = ℕ} most_flows 0)
+      ap length (refused_second (check_kept_of t).answer _ _ (eqb-false (check_kept_of t).answer.code 0 e))
+      ∙ length-replicate {A = ℕ} most_flows 0)
 
 -- THE CHECK OF A TABLE decides by interference where its figures are right
 pub table_decides : DecidesTables measure (λ t given. given ≡ check_kept_of t)

@@ -4,7 +4,7 @@ use mathlib.Core.Path.{◌≡◌, sym, ◌∙◌, ap}
 use mathlib.Core.Logic.{◌↔◌}
 use mathlib.Core.List.{[], ◌∷◌, ◌++◌}
 use native.Mathlib.Omega.{arith}
-use borrow.Author.Tests.{eqb_false}
+use borrow.Author.Tests.{eqb-false}
 use Rattle.trade.specs.Limits.{most_flows}
 use Rattle.trade.specs.Facts.{Facts, facts_of}
 use Rattle.trade.specs.Layout.{Sections}
@@ -51,7 +51,7 @@ module _ (measured : Facts → Measure) (a : Adding) (e : Done (add_answer_by me
   unfolding enter_rules code14 facts_of with_flow recut used
   new_code3 =
       let v : Valid (facts_of a.table.sections) = table_valid a.table.sections old_passed in
-      let full : a.table.sections.flows ≡ most_flows → ⊥ = eqb_false _ _ (given_passed 13 _ 0 (passed_head others_passed)) in
+      let full : a.table.sections.flows ≡ most_flows → ⊥ = eqb-false _ _ (given_passed 13 _ 0 (passed_head others_passed)) in
       code3_passes (facts_of (with_flow a)) v.nodes (record { least = omega arith; most = omega (arith, full, v.flows) })
 
   -- the rows stay

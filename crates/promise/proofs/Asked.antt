@@ -7,8 +7,8 @@ use mathlib.Core.Logic.{inl, inr, ◌↔◌}
 use mathlib.Core.List.{List, [], ◌∷◌, ◌++◌, append_assoc}
 use native.Mathlib.Omega.{arith}
 use lib.Dec.{eqb}
-use lib.ListN.{length, replicate, length_replicate}
-use borrow.Author.Tests.{eqb_true, eqb_false, ne_eqb, leb_false, le_leb, lt_leb, lt_ltb, le_ltb}
+use lib.ListN.{length, replicate, length-replicate}
+use borrow.Author.Tests.{eqb-true, eqb-false, ne_eqb, leb-false, le-leb, lt-leb, lt-ltb, le-ltb}
 use Rattle.trade.specs.Limits.{area_bytes, grant_bytes, end_of_clock}
 use Rattle.trade.specs.First.{first}
 use Rattle.trade.specs.Facts.{Facts, said}
@@ -90,9 +90,9 @@ module _ (a : Asking) (lent : List ℕ) (room : grant_bytes * (said a.book).flow
 
   pub advance_done : Done (ask_answer a) → Done (advance_answer (handed a lent))
   advance_done e =
-      by_test (eqb (advance_answer (handed a lent)).code 0) (eqb_true (advance_answer (handed a lent)).code 0)
+      by_test (eqb (advance_answer (handed a lent)).code 0) (eqb-true (advance_answer (handed a lent)).code 0)
       (λ d.
-      let n = eqb_false (advance_answer (handed a lent)).code 0 d in
+      let n = eqb-false (advance_answer (handed a lent)).code 0 d in
       absurd (n (sym (ap (λ (r : Answer). r.code) (ask_refused n)) ∙ e)))
 
 -- WHAT IS ASKED ABOUT: what the book says, the run that the area holds, and the flows that go in its slot
@@ -106,10 +106,10 @@ abbrev pub goes : Asking → List ℕ
 goes a = granted (facts a) (asked_due a) (run a)
 
 begun : (a : Asking) (i : ℕ) → (facts a).phase i ≤ slot_asked a → ((asked_due a).due i || (asked_due a).begun i) ≡ true
-begun a i h = begun_is (facts a) (facts a).phase (slot_asked a) i ∙ le_leb ((facts a).phase i) (slot_asked a) h
+begun a i h = begun_is (facts a) (facts a).phase (slot_asked a) i ∙ le-leb ((facts a).phase i) (slot_asked a) h
 
 not_begun : (a : Asking) (i : ℕ) → slot_asked a < (facts a).phase i → ((asked_due a).due i || (asked_due a).begun i) ≡ false
-not_begun a i h = begun_is (facts a) (facts a).phase (slot_asked a) i ∙ lt_leb ((facts a).phase i) (slot_asked a) h
+not_begun a i h = begun_is (facts a) (facts a).phase (slot_asked a) i ∙ lt-leb ((facts a).phase i) (slot_asked a) h
 
 -- where advance is done, the book is valid, the slot is one of the clock's, no flow has had more than its plan, and one that is not released
 -- is idle
@@ -138,7 +138,7 @@ module _ (a : Asking) (e : Done (ask_answer a)) where
   lent = replicate (grant_bytes * (facts a).flows) 0
 
   enough : grant_bytes * (facts a).flows ≤ length lent
-  enough = omega (arith, length_replicate {A = ℕ} (grant_bytes * (facts a).flows) 0)
+  enough = omega (arith, length-replicate {A = ℕ} (grant_bytes * (facts a).flows) 0)
 
   -- advance would be, and the place is one of the book's
   ask_runs : Runs a
@@ -147,7 +147,7 @@ module _ (a : Asking) (e : Done (ask_answer a)) where
   pub ask_listed : a.place < (facts a).flows
   unfolding code15_removing
   ask_listed =
-      leb_false (facts a).flows a.place
+      leb-false (facts a).flows a.place
       (given_passed 14 _ 0 (sym (ap (λ (r : Answer). r.code) (ask_place a lent enough (advance_done a lent enough e))) ∙ e))
 
   -- each of the four is told
@@ -164,12 +164,12 @@ module _ (a : Asking) (e : Done (ask_answer a)) where
     told_had h =
         ask_why
         ∙ tells_finished (facts a) (asked_due a) (run a) a.place (begun a a.place come)
-        (le_ltb (steps_had a a.place) ((facts a).len a.place) h)
+        (le-ltb (steps_had a a.place) ((facts a).len a.place) h)
 
     module _ (busy : Unfinished a) where
       pub works : unfinished (facts a) (asked_due a) (run a) a.place ≡ true
       unfolding unfinished
-      works = lt_ltb (steps_had a a.place) ((facts a).len a.place) busy
+      works = lt-ltb (steps_had a a.place) ((facts a).len a.place) busy
 
       pub told_goes : among (goes a) a.place ≡ true → ask_of a ≡ Told.Granted
       told_goes g = ask_why ∙ tells_granted (facts a) (asked_due a) (run a) a.place (begun a a.place come) works g
@@ -199,7 +199,7 @@ unfolding ask_of
 tells a =
     by_test (eqb (ask_answer a).code 0)
     (λ d.
-    let e : Done (ask_answer a) = eqb_true (ask_answer a).code 0 d in
+    let e : Done (ask_answer a) = eqb-true (ask_answer a).code 0 d in
     by_order ((facts a).phase a.place) (slot_asked a)
     (λ come.
     by_order ((facts a).len a.place) (steps_had a a.place)
@@ -209,7 +209,7 @@ tells a =
     (λ g. subst (Tells a) (sym (told_waits a e come busy g)) (tells_waits _ e come busy g refl))))
     (λ early. subst (Tells a) (sym (told_early a e early)) (tells_early e early)))
     (λ d.
-    let n = eqb_false (ask_answer a).code 0 d in
+    let n = eqb-false (ask_answer a).code 0 d in
     subst (Tells a) (sym (refused_second (ask_answer a) _ (Told.Refused (ask_answer a)) n)) (tells_refusal (ask_answer a) n refl))
 
 module _ {a : Asking} where

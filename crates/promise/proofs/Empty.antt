@@ -4,8 +4,8 @@ use Prim.Native.Nat.{ℕ, zero, suc, ◌*◌, ◌≤◌, ◌<◌}
 use mathlib.Core.Path.{◌≡◌, refl, sym, ◌∙◌, ap}
 use mathlib.Core.List.{List}
 use native.Mathlib.Omega.{arith}
-use native.Mathlib.Nat.{le_antisymm, zero_add}
-use lib.ListN.{length, get_or, take, length_replicate}
+use native.Mathlib.Nat.{le_antisymm, zero-add}
+use lib.ListN.{length, get_or, take, length-replicate}
 use Rattle.trade.specs.Limits.{area_bytes, grant_bytes, end_of_clock}
 use Rattle.trade.specs.Bytes.{word, part, over}
 use Rattle.trade.specs.Layout.{trailer, flow_count, records_distance, sections_of, field}
@@ -68,7 +68,7 @@ done_3 = ap (λ (a : Advanced). a.answer.code) cases_hold.case5_slot3
 -- book A and the memory lent for its run
 length_lent : (count : ℕ) → length (lent count) ≡ count
 unfolding lent
-length_lent count = length_replicate count _
+length_lent count = length-replicate count _
 
 -- its first flow has three steps, a period and a deadline of ten slots, and its first release is in slot 0
 len_A : (said book_a).len 0 ≡ 3
@@ -81,7 +81,7 @@ deadline_A = refl
 
 release_A : (v : Instance) → release_of (said book_a) 0 v ≡ v.0 * 10
 unfolding release_of said facts_of sections_of field word part trailer records_distance flow_count book_a
-release_A v = zero_add (v.0 * 10)
+release_A v = zero-add (v.0 * 10)
 
 -- of any program that gives something for whatever it is handed
 module _ (p : Program) (answers : Answers p) where

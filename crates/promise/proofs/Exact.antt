@@ -3,8 +3,8 @@ use Prim.Native.Nat.{ℕ, ◌-◌, ◌≤◌, ◌<◌}
 use mathlib.Core.Path.{◌≡◌, refl, sym, ◌∙◌, ap, subst}
 use mathlib.Core.List.{List}
 use native.Mathlib.Omega.{arith}
-use lib.ListN.{length, take, drop, length_drop}
-use borrow.Author.Tests.{leb_false}
+use lib.ListN.{length, take, drop, length-drop}
+use borrow.Author.Tests.{leb-false}
 use Rattle.trade.specs.Bytes.{Bytes, over}
 use Rattle.trade.specs.Layout.{rows_distance, sections_of}
 use Rattle.trade.specs.Table.{InMemory, used, book_of, table_of}
@@ -59,7 +59,7 @@ read_write b buffer bytes e room =
     let passed : Passed b book_rules = first_of_passed book_rules no_number b e in
     let same : book_of (table_of (sections_of b)) ≡ drop (length b - rows_distance b) b = read_book b passed bytes in
     let long : length (drop (length b - rows_distance b) b) ≡ rows_distance b
-    = length_drop (length b - rows_distance b) b ∙ omega (arith, (passed_framed b passed).rows) in
+    = length-drop (length b - rows_distance b) b ∙ omega (arith, (passed_framed b passed).rows) in
     rw (reads b e)
     (written (table_of (sections_of b)) buffer (read_passes b passed) (rw (same, long) room) ∙ rw (same, long))
 
@@ -97,7 +97,7 @@ remove_figures r m e =
     let all = first_of_passed _ no_number r e in
     let form = old_form r.table (passed_look (λ (x : Removing). x.table) old_rules (passed_first (on (λ (x : Removing). x.table) old_rules) _ all)) in
     let below : r.place < r.table.sections.flows
-    = leb_false _ _ (given_passed 14 _ 0 (passed_head (passed_others (on (λ (x : Removing). x.table) old_rules) _ all))) in
+    = leb-false _ _ (given_passed 14 _ 0 (passed_head (passed_others (on (λ (x : Removing). x.table) old_rules) _ all))) in
     let full = used_full r.table.sections (in_memory_holds r.table.sections m (roomy r.table.sections (table_valid r.table.sections form))) in
     subst Figured (sym (done_first (remove_answer r) (kept_of (without_flow r)) r.table e))
     (ap figures_of

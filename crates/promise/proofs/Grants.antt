@@ -3,8 +3,8 @@ use Prim.Native.Nat.{ℕ, zero, suc, ◌+◌, ◌-◌, ◌*◌, ◌^◌, ◌<◌
 use mathlib.Core.Path.{◌≡◌, refl, ◌∙◌}
 use mathlib.Core.List.{List, [], ◌∷◌, ◌++◌, append_assoc}
 use native.Mathlib.Omega.{arith}
-use native.Mathlib.Nat.{add_assoc, div_le_self}
-use lib.ListN.{length, get_or, get_or_append}
+use native.Mathlib.Nat.{add_assoc, div-le_self}
+use lib.ListN.{length, get_or, get_or-append}
 use Rattle.trade.specs.Limits.{grant_bytes, end_of_clock}
 use Rattle.trade.specs.Bytes.{two_bytes, four_bytes}
 use Rattle.trade.specs.Facts.{Facts}
@@ -22,9 +22,9 @@ grant_front a b e =
     rw (
       word_front a b 0 (omega arith),
       long_front a b 2 (omega arith),
-      get_or_append a b 0 6 (omega arith),
-      get_or_append a b 0 7 (omega arith),
-      get_or_append a b 0 8 (omega arith),
+      get_or-append a b 0 6 (omega arith),
+      get_or-append a b 0 7 (omega arith),
+      get_or-append a b 0 8 (omega arith),
     )
 
 pub grant_behind : (a b : List ℕ) (j : ℕ) → length a ≡ grant_bytes → grant_at (a ++ b) (suc j) ≡ grant_at b j
@@ -46,17 +46,17 @@ grant_behind a b j e =
     )
 
 -- grant j of a list is that of its flow j
-pub grant_at_law :
+pub grant_at_lem :
     (grant : ℕ → List ℕ)
     → ((i : ℕ) → length (grant i) ≡ grant_bytes)
     → (is rest : List ℕ) (j : ℕ)
     → j < length is
     → grant_at (grants_of grant is ++ rest) j ≡ grant_at (grant (get_or is j 0)) 0
 unfolding grants_of
-grant_at_law grant nine [] rest j h = absurd (omega arith)
-grant_at_law grant nine (i ∷ is) rest zero h = rw append_assoc (grant_front (grant i) _ (nine i))
-grant_at_law grant nine (i ∷ is) rest (suc j) h =
-    rw append_assoc (grant_behind (grant i) _ j (nine i) ∙ grant_at_law grant nine is rest j (omega arith))
+grant_at_lem grant nine [] rest j h = absurd (omega arith)
+grant_at_lem grant nine (i ∷ is) rest zero h = rw append_assoc (grant_front (grant i) _ (nine i))
+grant_at_lem grant nine (i ∷ is) rest (suc j) h =
+    rw append_assoc (grant_behind (grant i) _ j (nine i) ∙ grant_at_lem grant nine is rest j (omega arith))
 
 module _ (f : Facts) (r : Releases) (s : State) (i : ℕ) where
   pub length_grant : length (grant_of f r s i) ≡ grant_bytes
@@ -83,7 +83,7 @@ module _ (f : Facts) (r : Releases) (s : State) (i : ℕ) where
 -- the number of an instance at any slot of the clock fits its four bytes
 instance_fits : (f : Facts) (t l : ℕ) → t < end_of_clock → instance_at f f.phase t l < 2 ^ 32
 unfolding instance_at
-instance_fits f t l clock = omega (arith, div_le_self (t - f.phase l) (f.period l))
+instance_fits f t l clock = omega (arith, div-le_self (t - f.phase l) (f.period l))
 
 -- A SLOT of the clock, of valid facts: grant j of those that are made in it is the next step of the j-th flow that goes
 module _ (waits : Waits) (f : Facts) (v : Valid f) (t : ℕ) (clock : t < end_of_clock) (s : State) where
@@ -100,5 +100,5 @@ module _ (waits : Waits) (f : Facts) (v : Valid f) (t : ℕ) (clock : t < end_of
       ≡ step_grant f (get_or goes j 0) (record { 0 = due.instance (get_or goes j 0) }) (record { 0 = done_now due s (get_or goes j 0) })
   slot_grant rest j h =
       let i : ℕ = get_or goes j 0 in
-      grant_at_law (grant_of f due s) (length_grant f due s) goes rest j h
+      grant_at_lem (grant_of f due s) (length_grant f due s) goes rest j h
       ∙ grant_says f due s i (omega (arith, (v.records i (granted_below waits f due s i (among_at goes j h))).id.most)) (instance_fits f t i clock)

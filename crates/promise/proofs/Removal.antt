@@ -5,8 +5,8 @@ use mathlib.Core.Path.{◌≡◌, refl, sym, ◌∙◌, ap, subst}
 use mathlib.Core.Bool.{Bool}
 use mathlib.Core.List.{List, [], ◌∷◌, ◌++◌, append_assoc}
 use native.Mathlib.Omega.{arith}
-use lib.ListN.{length, get_or, take, drop, length_append, get_or_append}
-use lib.Seq.{get_or_append_add, take_append_seam}
+use lib.ListN.{length, get_or, take, drop, length-append, get_or-append}
+use lib.Seq.{get_or-append-add, take-append_seam}
 use Rattle.trade.specs.Limits.{end_of_clock, grant_bytes}
 use Rattle.trade.specs.Bytes.{over}
 use Rattle.trade.specs.Layout.{Sections}
@@ -66,12 +66,12 @@ module _
     formed : Passed table table_rules
     formed = kept_formed kept_measure r.table e
 
-    is_done_law : Done (remove_answer r)
-    is_done_law = remove_done r m formed there right
+    is_done_lem : Done (remove_answer r)
+    is_done_lem = remove_done r m formed there right
 
     is_left : (remove_of r).table ≡ kept_of (without_flow r)
     unfolding remove_of
-    is_left = done_first (remove_answer r) _ _ is_done_law
+    is_left = done_first (remove_answer r) _ _ is_done_lem
 
     -- every flow had a bound,
     old_nine : (code9 (facts_of table)).code ≡ 0
@@ -163,7 +163,7 @@ module _ (x : Ran) (g : AcceptedRun measure greedy x) (place : ℕ) (within : pl
   count = ap (λ (a : Advanced). a.answer.number) (in_slot measure greedy x g t.0 called clock)
 
   counts : length (goes greedy x t.0) ≡ length front + length behind.rest
-  counts = ap length split ∙ length_append front behind.rest
+  counts = ap length split ∙ length-append front behind.rest
 
   -- the bytes of the first grants are theirs
   front_bytes : take (grant_bytes * length front) (x.advanced t).grants ≡ grants_of grant_as front
@@ -177,7 +177,7 @@ module _ (x : Ran) (g : AcceptedRun measure greedy x) (place : ℕ) (within : pl
       ∙ ap (λ (made : List ℕ). take (grant_bytes * length front) (made ++ lent)) (ap (grants_of grant_as) split ∙ grants_append grant_as front behind.rest)
       ∙ ap (take (grant_bytes * length front)) (append_assoc (grants_of grant_as front) (grants_of grant_as behind.rest) lent)
       ∙ ap (λ (n : ℕ). take n (grants_of grant_as front ++ rest)) long
-      ∙ take_append_seam (grants_of grant_as front) rest
+      ∙ take-append_seam (grants_of grant_as front) rest
 
   -- grant j is that of the j-th flow that goes
   says : (j : ℕ) → j < length (goes greedy x t.0) → (grant_at (x.advanced t).grants j).id ≡ (facts x).id (get_or (goes greedy x t.0) j 0)
@@ -187,7 +187,7 @@ module _ (x : Ran) (g : AcceptedRun measure greedy x) (place : ℕ) (within : pl
   above : (j : ℕ) → j < length front → GrantOf (facts x) (x.advanced t) j 0 place
   above j h =
       let i : ℕ = get_or front j 0 in
-      let is : get_or (goes greedy x t.0) j 0 ≡ i = ap (λ (l : List ℕ). get_or l j 0) split ∙ get_or_append front behind.rest 0 j h in
+      let is : get_or (goes greedy x t.0) j 0 ≡ i = ap (λ (l : List ℕ). get_or l j 0) split ∙ get_or-append front behind.rest 0 j h in
       (i, omega arith, (going_below rule work place i (among_at front j h)).0, says j (omega (arith, counts)) ∙ ap (facts x).id is)
 
   others : (j : ℕ) → length front ≤ j → j < (x.advanced t).answer.number → GrantOf (facts x) (x.advanced t) j place (facts x).flows
@@ -195,7 +195,7 @@ module _ (x : Ran) (g : AcceptedRun measure greedy x) (place : ℕ) (within : pl
       let k : ℕ = j - length front in
       let at : j ≡ length front + k = omega arith in
       let i : ℕ = get_or behind.rest k 0 in
-      let is : get_or (goes greedy x t.0) j 0 ≡ i = ap (λ (l : List ℕ). get_or l j 0) split ∙ ap (λ (n : ℕ). get_or (front ++ behind.rest) n 0) at ∙ get_or_append_add front behind.rest k 0 in
+      let is : get_or (goes greedy x t.0) j 0 ≡ i = ap (λ (l : List ℕ). get_or l j 0) split ∙ ap (λ (n : ℕ). get_or (front ++ behind.rest) n 0) at ∙ get_or-append-add front behind.rest k 0 in
       let past = behind.past i (among_at behind.rest k (omega (arith, counts, count))) in
       (i, past.0, past.1, says j (omega (arith, count)) ∙ ap (facts x).id is)
 
@@ -275,7 +275,7 @@ module _ (r : Removing) (checked : Checked) (may : MayGo planner r checked) wher
       let there = may.there in
       let is : changed.table ≡ kept_of (without_flow r) = ap (λ (c : Changed). c.table) e ∙ is_left r m right old there in
       record {
-        done = rw e (is_done_law r m right old there);
+        done = rw e (is_done_lem r m right old there);
         accepted = λ left k. rw (k, is, kept_left r m right old there) refl;
         accepted_book = λ left k. rw (k, is, book_left r m right old there) refl;
         no_higher = λ left k l h. rw (k, is, kept_left r m right old there, may.checks) (no_higher r m right old there l (rw is at h));

@@ -8,7 +8,7 @@ use mathlib.Core.List.{List, [], ◌∷◌, ◌++◌, append_assoc}
 use native.Mathlib.Omega.{arith}
 use lib.Dec.{eqb, ltb}
 use lib.ListN.{length}
-use borrow.Author.Tests.{eq_eqb, ne_eqb, lt_ltb, le_ltb}
+use borrow.Author.Tests.{eq-eqb, ne_eqb, lt-ltb, le-ltb}
 use Rattle.trade.specs.Limits.{most_flows, end_of_clock, area_bytes, grant_bytes}
 use Rattle.trade.specs.Bytes.{long, over}
 use Rattle.trade.specs.Facts.{Facts, said}
@@ -135,25 +135,25 @@ module _ (measured : Facts → Measure) (waits : Waits) (x : Ran) (g : AcceptedR
     good_place i h =
         let order = periodic_in_order (facts x) (facts x).phase i (valid.records i h).period.least in
         rw (
-          lt_ltb i (facts x).flows h,
+          lt-ltb i (facts x).flows h,
           slot_abreast.done i h,
-          le_ltb ((facts x).len i) ((run waits x t).done i) (run_within waits (facts x) (due x) t i),
+          le-ltb ((facts x).len i) ((run waits x t).done i) (run_within waits (facts x) (due x) t i),
         )
         (by_test (ltb ((facts x).phase i) t) (λ begun. rw begun)
         (λ early.
         rw (
           early,
-          eq_eqb ((run waits x t).done i) ((facts x).len i) (run_idle waits (facts x) (due x) i order t early),
+          eq-eqb ((run waits x t).done i) ((facts x).len i) (run_idle waits (facts x) (due x) i order t early),
         )))
 
     good_unused : (i : ℕ) → i < most_flows → (facts x).flows ≤ i → bad_place (facts x) (due x t) (state_at waits x t) i ≡ false
     unfolding bad_place area_at
-    good_unused i h u = rw (le_ltb i (facts x).flows u, area_unused (facts x).flows (run waits x t) x.area i h u)
+    good_unused i h u = rw (le-ltb i (facts x).flows u, area_unused (facts x).flows (run waits x t) x.area i h u)
 
     code10_passes : (code10 (facts x) (due x t) (state_at waits x t)).code ≡ 0
     unfolding code10
     code10_passes =
-        rw (le_ltb end_of_clock (state_at waits x t).slot (omega (arith, slot_read)))
+        rw (le-ltb end_of_clock (state_at waits x t).slot (omega (arith, slot_read)))
         (ap (λ (a : Answer). a.code)
         (given_first_none 10 (bad_place (facts x) (due x t) (state_at waits x t)) most_flows
         (λ i h. by_order (facts x).flows i (good_unused i h) (good_place i))))
@@ -173,7 +173,7 @@ module _ (measured : Facts → Measure) (waits : Waits) (x : Ran) (g : AcceptedR
           never_overrun waits (facts x) (due x) (measured (facts x)) (g.sound.covers (facts x))
               (λ l l<. released_apart (facts x) (facts x).phase l) (bound_by (facts x) (measured (facts x)))
               (accepted_bounded measured x.book g.accepted g.sound.carries) t i h now,
-          le_ltb ((facts x).len i) ((facts x).len i) (omega arith),
+          le-ltb ((facts x).len i) ((facts x).len i) (omega arith),
         ))
         (λ quiet. rw quiet))))
 
@@ -193,9 +193,9 @@ module _ (measured : Facts → Measure) (waits : Waits) (x : Ran) (g : AcceptedR
     -- what it is lent for its grants has room for all
     module _ (lent : List ℕ) (enough : grant_bytes * (facts x).flows ≤ length lent) where
       -- so every rule before code 12 passes
-      before_clock_law : Passed (slot_at waits x t lent) before_clock
+      before_clock_lem : Passed (slot_at waits x t lent) before_clock
       unfolding before_clock
-      before_clock_law =
+      before_clock_lem =
           passed_append (passed_on (λ (a : Advancing). a.book) (book_passed measured x.book g.accepted))
           (passed_more room
           (passed_more (code13_passes (grant_bytes * (facts x).flows) lent enough)
@@ -240,7 +240,7 @@ module _ (measured : Facts → Measure) (waits : Waits) (x : Ran) (g : AcceptedR
   slot_done t lent clock enough =
       rules_split waits (slot_at waits x t lent)
       ∙ passed_done (λ y. length (flows_granted_by waits releases_of y))
-      (passed_append (before_clock_law t (omega arith) lent enough)
+      (passed_append (before_clock_lem t (omega arith) lent enough)
       (passed_more
       (ap (λ (a : Answer). a.code)
       (given_false 12 (eqb (state_at waits x t).slot end_of_clock) 0
@@ -260,10 +260,10 @@ module _ (measured : Facts → Measure) (waits : Waits) (x : Ran) (g : AcceptedR
   clock_ends lent enough =
       let over12 : code12 (state_at waits x end_of_clock) ≡ refused 12 0
       = given_true 12 (eqb (state_at waits x end_of_clock).slot end_of_clock) 0
-      (eq_eqb (state_at waits x end_of_clock).slot end_of_clock (slot_read end_of_clock (omega arith))) in
+      (eq-eqb (state_at waits x end_of_clock).slot end_of_clock (slot_read end_of_clock (omega arith))) in
       rules_split waits (slot_at waits x end_of_clock lent)
       ∙ passed_refused (λ a. code12 (state_in a.area)) ((λ a. rule_of code11 a) ∷ [])
-      (λ y. length (flows_granted_by waits releases_of y)) (before_clock_law end_of_clock (omega arith) lent enough)
+      (λ y. length (flows_granted_by waits releases_of y)) (before_clock_lem end_of_clock (omega arith) lent enough)
       (λ e. omega (arith, ap (λ (a : Answer). a.code) over12))
       ∙ over12
 
@@ -302,12 +302,12 @@ module _ (measured : Facts → Measure) (waits : Waits) (x : Ran) (g : AcceptedR
       ∙ ap (λ (area : List ℕ). advance_by waits releases_of (record { book = x.book; area = area; grants = x.grants (at t) })) e
 
   -- THE AREA before slot t holds the run after t slots
-  area_before_law : (t : ℕ) → t ≤ x.count → t ≤ end_of_clock → area_before x t ≡ area_at waits x t
+  area_before_lem : (t : ℕ) → t ≤ x.count → t ≤ end_of_clock → area_before x t ≡ area_at waits x t
   unfolding area_before
-  area_before_law zero h clock = ap (λ (s : Started). s.area) started
-  area_before_law (suc t) h clock =
+  area_before_lem zero h clock = ap (λ (s : Started). s.area) started
+  area_before_lem (suc t) h clock =
       ap (λ (a : Advanced). a.area)
-      (from_area t t h (area_before_law t (omega arith) (omega arith)) ∙ slot_leaves t (x.grants (at t)) clock (g.ran.grants (at t) h))
+      (from_area t t h (area_before_lem t (omega arith) (omega arith)) ∙ slot_leaves t (x.grants (at t)) clock (g.ran.grants (at t) h))
 
   -- and past the clock's end the run that ended there
   area_past : (t : ℕ) → t ≤ x.count → end_of_clock ≤ t → area_before x t ≡ area_at waits x end_of_clock
@@ -315,7 +315,7 @@ module _ (measured : Facts → Measure) (waits : Waits) (x : Ran) (g : AcceptedR
   area_past zero h past = absurd (omega arith)
   area_past (suc t) h past =
       ⊎_elim
-      (λ (before : t < end_of_clock). let e : suc t ≡ end_of_clock = omega arith in area_before_law (suc t) h (omega arith) ∙ ap (area_at waits x) e)
+      (λ (before : t < end_of_clock). let e : suc t ≡ end_of_clock = omega arith in area_before_lem (suc t) h (omega arith) ∙ ap (area_at waits x) e)
       (λ (after : end_of_clock ≤ t).
       ap (λ (a : Advanced). a.area)
       (from_area t end_of_clock h (area_past t (omega arith) after) ∙ end_leaves (x.grants (at t)) (g.ran.grants (at t) h)))
@@ -332,7 +332,7 @@ module _ (measured : Facts → Measure) (waits : Waits) (x : Ran) (g : AcceptedR
         area = area_at waits x (suc t);
         grants = over (made waits x t) (x.grants (at t));
       }
-  in_slot t h clock = from_area t t h (area_before_law t (omega arith) (omega arith)) ∙ slot_leaves t (x.grants (at t)) clock (g.ran.grants (at t) h)
+  in_slot t h clock = from_area t t h (area_before_lem t (omega arith) (omega arith)) ∙ slot_leaves t (x.grants (at t)) clock (g.ran.grants (at t) h)
 
   -- and past it
   pub past_clock : (t : ℕ) → t < x.count → end_of_clock ≤ t → (x.advanced (at t)).answer ≡ refused 12 0

@@ -6,7 +6,7 @@ use mathlib.Core.Bool.{Bool, true, false, ◌&&◌}
 use mathlib.Core.Logic.{◌↔◌}
 use native.Mathlib.Omega.{arith}
 use lib.ListN.{length, get_or}
-use borrow.Author.Tests.{le_leb, lt_leb}
+use borrow.Author.Tests.{le-leb, lt-leb}
 use Rattle.trade.specs.First.{first}
 use Rattle.trade.specs.Bytes.{over}
 use Rattle.trade.specs.Conflict.{conflict}
@@ -50,11 +50,11 @@ module _ (a : Asking) (advanced : Advanced) (same : SameSlot planner.advance a a
 
   listed_done : Done advanced.answer → a.place < (facts a).flows → Done (ask_answer a)
   unfolding code15_removing
-  listed_done e h = ap (λ (r : Answer). r.code) (place_decides e ∙ given_false 15 _ 0 (lt_leb (facts a).flows a.place h))
+  listed_done e h = ap (λ (r : Answer). r.code) (place_decides e ∙ given_false 15 _ 0 (lt-leb (facts a).flows a.place h))
 
   unlisted : Done advanced.answer → (facts a).flows ≤ a.place → ask_answer a ≡ refused 15 0
   unfolding code15_removing
-  unlisted e h = place_decides e ∙ given_true 15 _ 0 (le_leb (facts a).flows a.place h)
+  unlisted e h = place_decides e ∙ given_true 15 _ 0 (le-leb (facts a).flows a.place h)
 
   as_advance : Refused advanced.answer → ask_of a ≡ Told.Refused advanced.answer
   as_advance n = (refused_told a advanced.answer).1 (n, ask_refused a same.grants same.room (rw answer_is at n) ∙ sym answer_is)

@@ -2,8 +2,8 @@
 use Prim.Native.Nat.{ℕ, suc, ◌+◌}
 use mathlib.Core.Path.{◌≡◌}
 use native.Mathlib.Omega.{arith}
-use native.Mathlib.Nat.{suc_add}
-use native.Mathlib.Numerals.{sub_one}
+use native.Mathlib.Nat.{suc-add}
+use native.Mathlib.Numerals.{sub-one}
 use lib.Dec.{ltb}
 use Rattle.trade.specs.Interference.{one}
 use Rattle.response.specs.Course.{Course, acting}
@@ -17,4 +17,4 @@ acting_one c r = omega (arith, often_none c.released (suc r))
 -- a window of one more slot has one more instance where the slot has a release
 pub acting_suc : (c : Course) (r k : ℕ) → acting c r (suc (suc k)) ≡ acting c r (suc k) + one (c.released (suc (r + k)))
 unfolding acting
-acting_suc c r k = rw (sub_one, sub_one, often_suc, suc_add) (omega arith)
+acting_suc c r k = rw (sub-one, sub-one, often_suc, suc-add) (omega arith)

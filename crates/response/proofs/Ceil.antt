@@ -1,10 +1,10 @@
 -- Laws of `ceil`, a quotient rounded up. Assumes nothing.
 use Prim.Native.Nat.{ℕ, ◌+◌, ◌*◌, ◌≤◌, ◌<◌}
 use native.Mathlib.Omega.{arith}
-use native.Mathlib.Nat.{le_div_iff_mul_le}
+use native.Mathlib.Nat.{le-div_iff_mul-le}
 use Rattle.trade.specs.Bound.{ceil}
 
 -- a number is at most ceil(a / b) where its multiple of b is less than b above a
 pub ceil_above : (a b n : ℕ) → 1 ≤ b → n * b < a + b → n ≤ ceil a b
 unfolding ceil
-ceil_above a b n b≥ h = (le_div_iff_mul_le b≥).1 (omega arith)
+ceil_above a b n b≥ h = (le-div_iff_mul-le b≥).1 (omega arith)

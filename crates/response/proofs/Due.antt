@@ -3,7 +3,7 @@ use Prim.Native.Nat.{ℕ, suc, ◌+◌, ◌-◌, ◌≤◌, ◌<◌}
 use mathlib.Core.Path.{◌≡◌, sym, ◌∙◌}
 use mathlib.Core.Bool.{true, false}
 use native.Mathlib.Omega.{arith}
-use native.Mathlib.Nat.{add_sub_of_le}
+use native.Mathlib.Nat.{add-sub_of_le}
 use Rattle.trade.specs.Facts.{Facts}
 use Rattle.trade.specs.Slot.{Releases, done_now, Waits, granted_by, among, run_by}
 use Rattle.response.specs.Course.{Course, often, after}
@@ -58,7 +58,7 @@ module _ (waits : Waits) (f : Facts) (releases : ℕ → Releases) (l : ℕ) (or
   unfolding course_of
   instance_steps r n due quiet k k< =
       let s : Step course r n k = find_step course steady r (steady.anew r due) n quiet k k< in
-      let now : r + (s.slot - r) ≡ s.slot = add_sub_of_le s.from in
+      let now : r + (s.slot - r) ≡ s.slot = add-sub_of_le s.from in
       let number : (releases s.slot).instance l ≡ (releases r).instance l
       = rw now at (number_stays releases l order r (s.slot - r) (λ u u> u≤. quiet u u> (omega (arith, s.before)))) in
       (s.slot, s.from, s.before, record { goes = s.goes; step = s.step; instance = number })
@@ -69,7 +69,7 @@ module _ (waits : Waits) (f : Facts) (releases : ℕ → Releases) (l : ℕ) (or
   granted_due t m =
       let q : Latest course t = granted_latest t m in
       let r : ℕ = q.slot in
-      let now : r + (t - r) ≡ t = add_sub_of_le q.past in
+      let now : r + (t - r) ≡ t = add-sub_of_le q.past in
       let quiet : Quiet course r (r + (t - r)) = rw now q.quiet in
       let counts : done_now (releases t) (run_by waits f releases t) l ≡ course.done r + often course.goes r (t - r)
       = rw now at (done_counts course steady r (t - r) quiet) in

@@ -5,7 +5,7 @@ use mathlib.Core.Path.{◌≡◌, sym, ◌∙◌}
 use mathlib.Core.Bool.{true, false}
 use native.Mathlib.Omega.{arith}
 use lib.ListN.{length, get_or}
-use borrow.Author.Tests.{ltb_true}
+use borrow.Author.Tests.{ltb-true}
 use Rattle.trade.specs.Facts.{Facts}
 use Rattle.trade.specs.Conflict.{conflict}
 use Rattle.trade.specs.Slot.{State, Releases, done_now, unfinished, next_step, going, Waits, granted_by, among}
@@ -20,7 +20,7 @@ module _ (waits : Waits) (f : Facts) (r : Releases) (s : State) where
 
   pub granted_unfinished : (i : ℕ) → among (granted_by waits f r s) i ≡ true → done_now r s i < f.len i
   unfolding granted_by unfinished
-  granted_unfinished i m = ltb_true (done_now r s i) (f.len i) (going_below (waits f r s) (unfinished f r s) f.flows i m).1
+  granted_unfinished i m = ltb-true (done_now r s i) (f.len i) (going_below (waits f r s) (unfinished f r s) f.flows i m).1
 
   -- they stand in record order, none twice
   pub granted_rising :

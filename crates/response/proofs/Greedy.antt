@@ -3,7 +3,7 @@
 use Prim.Native.Nat.{ℕ, ◌-◌, ◌<◌}
 use mathlib.Core.Path.{◌≡◌, ◌∙◌}
 use mathlib.Core.Bool.{true, false}
-use borrow.Author.Tests.{lt_ltb}
+use borrow.Author.Tests.{lt-ltb}
 use Rattle.trade.specs.Facts.{Facts}
 use Rattle.trade.specs.Interference.{worst, matrix, interference}
 use Rattle.trade.specs.Bound.{by_interference}
@@ -22,7 +22,7 @@ waits_for :
     → (h : ℕ) × (h < l) × (among (granted f r s) h ≡ true) × (matrix f l h (done_now r s l) (done_now r s h) ≡ true)
 unfolding unfinished next_step matrix
 waits_for f r s l l< left m =
-    let b : Blocked f r s l = left_out_blocked f r s l l< (lt_ltb (done_now r s l) (f.len l) left) m in (
+    let b : Blocked f r s l = left_out_blocked f r s l l< (lt-ltb (done_now r s l) (f.len l) left) m in (
       b.by,
       b.above,
       b.goes,

@@ -4,7 +4,7 @@ use Prim.Native.Nat.{ℕ, zero, suc, ◌+◌, ◌≤◌, ◌<◌}
 use mathlib.Core.Path.{◌≡◌, ◌∙◌}
 use mathlib.Core.Bool.{true, false}
 use native.Mathlib.Omega.{arith}
-use native.Mathlib.Nat.{add_zero, add_suc}
+use native.Mathlib.Nat.{add-zero, add-suc}
 use Rattle.trade.specs.Slot.{Releases}
 use Rattle.trade.proofs.First.{or_right}
 use Rattle.response.specs.Promise.{InOrder}
@@ -25,9 +25,9 @@ module _ (releases : ℕ → Releases) (l : ℕ) (order : InOrder releases l) wh
   -- without a release the number stays
   pub number_stays :
       (q n : ℕ) → ((u : ℕ) → q < u → u ≤ q + n → (releases u).due l ≡ false) → (releases (q + n)).instance l ≡ (releases q).instance l
-  number_stays q zero quiet = rw (add_zero q)
+  number_stays q zero quiet = rw (add-zero q)
   number_stays q (suc n) quiet =
-      rw (add_suc q n)
+      rw (add-suc q n)
       (order.stays (q + n) (quiet (suc (q + n)) (omega arith) (omega arith)) ∙ number_stays q n (λ u u> u≤. quiet u u> (omega arith)))
 
   -- once a flow has begun the number never falls,

@@ -3,9 +3,9 @@ use Prim.Native.Nat.{ℕ, ◌+◌, ◌-◌, ◌<◌}
 use mathlib.Core.Path.{◌≡◌}
 use mathlib.Core.Bool.{Bool, true, false, ◌&&◌}
 use native.Mathlib.Omega.{arith}
-use native.Mathlib.Nat.{add_sub_of_le}
+use native.Mathlib.Nat.{add-sub_of_le}
 use lib.Dec.{eqb}
-use borrow.Author.Tests.{eqb_true, eq_eqb}
+use borrow.Author.Tests.{eqb-true, eq-eqb}
 use Rattle.trade.specs.First.{first}
 use Rattle.trade.specs.Facts.{Facts}
 use Rattle.trade.specs.Slot.{Releases, Waits}
@@ -48,15 +48,15 @@ module _
     unfolding course_of slot_of goes_with
     slot_granted k k< =
         let (u, from, before, g) = instance_steps waits f releases l order r n due quiet k k< in
-        let now : r + (u - r) ≡ u = add_sub_of_le from in
-        let there : goes_with course r k (u - r) ≡ true = rw (now, g.goes, eq_eqb (course.done u) k g.step) in
+        let now : r + (u - r) ≡ u = add-sub_of_le from in
+        let there : goes_with course r k (u - r) ≡ true = rw (now, g.goes, eq-eqb (course.done u) k g.step) in
         let d : ℕ = first (goes_with course r k) n in
         let (soon, here) = some_true (goes_with course r k) n (some_intro (goes_with course r k) n (u - r) (omega arith) there) in
         let (goes, with) = and_true (course.goes (r + d)) (eqb (course.done (r + d)) k) here in (
           omega arith,
           record {
             goes = goes;
-            step = eqb_true (course.done (r + d)) k with;
+            step = eqb-true (course.done (r + d)) k with;
             instance = number_stays releases l order r d (λ x x> x≤. quiet x x> (omega arith));
           },
         )

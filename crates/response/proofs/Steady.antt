@@ -4,7 +4,7 @@ use Prim.Native.Nat.{ℕ, zero, suc, ◌+◌, ◌-◌, ◌≤◌, ◌<◌}
 use mathlib.Core.Path.{◌≡◌, sym}
 use mathlib.Core.Bool.{true, false}
 use native.Mathlib.Omega.{arith}
-use native.Mathlib.Nat.{add_zero, add_suc, add_sub_of_le}
+use native.Mathlib.Nat.{add-zero, add-suc, add-sub_of_le}
 use Rattle.trade.specs.Interference.{one}
 use Rattle.response.specs.Course.{Course, often, after}
 use Rattle.response.specs.Waiting.{Steady}
@@ -55,9 +55,9 @@ module _ (c : Course) (s : Steady c) where
   -- between releases, the steps done are those of the slots in which the flow went
   pub done_counts : (r k : ℕ) → Quiet c r (r + k) → c.done (r + k) ≡ c.done r + often c.goes r k
   unfolding after
-  done_counts r zero quiet = rw (add_zero r, often_none) (omega arith)
+  done_counts r zero quiet = rw (add-zero r, often_none) (omega arith)
   done_counts r (suc k) quiet =
-      rw (add_suc r k, often_suc)
+      rw (add-suc r k, often_suc)
       (omega (
         arith,
         s.steps (r + k) (quiet (suc (r + k)) (omega arith) (omega arith)),
@@ -71,7 +71,7 @@ module _ (c : Course) (s : Steady c) where
   -- so they never fall
   pub done_grows : (r t : ℕ) → r ≤ t → Quiet c r t → c.done r ≤ c.done t
   done_grows r t r≤ quiet =
-      let e : r + (t - r) ≡ t = add_sub_of_le r≤ in
+      let e : r + (t - r) ≡ t = add-sub_of_le r≤ in
       rw (sym e) (omega (arith, done_counts r (t - r) (rw e quiet)))
 
   pub after_grows : (r t : ℕ) → r < t → Quiet c r t → after c r ≤ c.done t

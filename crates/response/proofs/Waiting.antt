@@ -4,7 +4,7 @@ use Prim.Native.Nat.{ℕ, zero, suc, ◌+◌, ◌-◌, ◌*◌, ◌≤◌, ◌<�
 use mathlib.Core.Path.{◌≡◌, sym, subst}
 use mathlib.Core.Bool.{true}
 use native.Mathlib.Omega.{arith}
-use native.Mathlib.Nat.{mul_le_mul_right, le_trans, le_of_eq, le_antisymm}
+use native.Mathlib.Nat.{mul-le-mul_right, le_trans, le_of_eq, le_antisymm}
 use Rattle.trade.specs.First.{sum_to}
 use Rattle.trade.specs.Interference.{Matrix}
 use Rattle.trade.specs.Bound.{instances, Measure}
@@ -114,7 +114,7 @@ module _
                 le_trans
                 (window_lemma (flow l) l flow (marks l) r (R l) its_window (μ.cost l) (F l) (λ h h<. potential l h l< h<))
                 (sum_mono (λ h. acting (flow h) r (R l) * μ.cost l h) (λ h. instances (R l) (μ.carry h) (period h) * μ.cost l h) l
-                (λ h h<. mul_le_mul_right (μ.cost l h)
+                (λ h h<. mul-le-mul_right (μ.cost l h)
                 (counting_lemma (flow h) (period h) (μ.carry h) r (R l) (period_positive bounds h (omega arith)) (bound_positive bounds l l<)
                 (run.apart h (omega arith)) (carried_in T in_time h r (omega arith) (omega (arith, bound_positive bounds l l<))))))
 

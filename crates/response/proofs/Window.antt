@@ -4,10 +4,10 @@ use Prim.Native.Nat.{ℕ, zero, suc, ◌+◌, ◌*◌, ◌≤◌, ◌<◌}
 use mathlib.Core.Path.{◌≡◌, ap}
 use mathlib.Core.Bool.{Bool, true, false, not, ◌&&◌}
 use native.Mathlib.Omega.{arith}
-use native.Mathlib.Numerals.{add_one}
-use native.Mathlib.Nat.{add_zero, add_suc, add_mul, one_mul, le_trans}
+use native.Mathlib.Numerals.{add-one}
+use native.Mathlib.Nat.{add-zero, add-suc, add-mul, one-mul, le_trans}
 use lib.Dec.{ltb}
-use borrow.Author.Tests.{ltb_true, ltb_false, lt_ltb}
+use borrow.Author.Tests.{ltb-true, ltb-false, lt-ltb}
 use Rattle.trade.specs.First.{sum_to}
 use Rattle.trade.specs.Interference.{Matrix, one}
 use Rattle.response.specs.Course.{Course, often, waiting, acting, after}
@@ -27,7 +27,7 @@ charged marks l h t = not (l.goes t) && h.goes t && ltb (h.done t) h.len && mark
 -- a slot in which h blocks l is charged to h
 block_charged : (marks : Matrix) (l h : Course) (t : ℕ) → l.goes t ≡ false → Blocks marks l h t → charged marks l h t ≡ true
 unfolding charged
-block_charged marks l h t waits b = rw (waits, b.goes, lt_ltb (h.done t) h.len b.unfinished, b.marked)
+block_charged marks l h t waits b = rw (waits, b.goes, lt-ltb (h.done t) h.len b.unfinished, b.marked)
 
 -- a slot charged to h is one in which h blocks l
 charged_blocks : (marks : Matrix) (l h : Course) (t : ℕ) → charged marks l h t ≡ true → Blocks marks l h t
@@ -41,7 +41,7 @@ charged_blocks marks l h t e =
     let (e₂, is_left) = and_true (waits && goes) left e₁ in
     record {
       goes = (and_true waits goes e₂).1;
-      unfinished = ltb_true (h.done t) h.len is_left;
+      unfinished = ltb-true (h.done t) h.len is_left;
       marked = is_marked;
     }
 
@@ -76,7 +76,7 @@ module _
         by_test (charged marks l h t)
         (λ e.
         let b : Blocks marks l h t = charged_blocks marks l h t e in
-        rw (one_holds e, one_holds b.goes, add_one)
+        rw (one_holds e, one_holds b.goes, add-one)
         (omega (arith, one_holds b.marked, p.pays (l.done t) (h.done t) i< b.unfinished)))
         (λ e. omega (arith, one_fails e, lower (l.done t) (h.done t) (after h t) i< (omega arith)))
 
@@ -95,7 +95,7 @@ module _
         let i'< : i' < l.len = unfinished (suc t) (omega arith) t< in
         let pay : one (charged marks l h t) + F i (after h t) ≤ F i (h.done t) = paid t i< in
         by_test (h.released (suc t))
-        (λ e. rw (one_holds e, one_mul) (omega (arith, pay, p.starts i', lower i' 0 j' i'< (omega arith))))
+        (λ e. rw (one_holds e, one-mul) (omega (arith, pay, p.starts i', lower i' 0 j' i'< (omega arith))))
         (λ e.
         let down : F i' j' ≤ F i j' = never_rises (λ n. F n j') (λ n. p.falls n j') i i' (onward t r≤ t<) in
         omega (arith, pay, down, lower i (after h t) j' i< (goes_on t r≤ t< e)))
@@ -104,14 +104,14 @@ module _
     charges :
         (k : ℕ) → k < w → often (charged marks l h) r k + F (l.done (r + k)) (h.done (r + k)) ≤ acting h r (suc k) * top
     charges zero k< =
-        rw (often_none, acting_one, add_zero r)
+        rw (often_none, acting_one, add-zero r)
         (by_test (ltb (h.done r) h.len)
         (λ e.
-        rw (one_holds e, one_mul)
+        rw (one_holds e, one-mul)
         (omega (arith, p.starts (l.done r), lower (l.done r) 0 (h.done r) (unfinished r (omega arith) (omega arith)) (omega arith))))
-        (λ e. omega (arith, p.ends (l.done r) (h.done r) (ltb_false (h.done r) h.len e))))
+        (λ e. omega (arith, p.ends (l.done r) (h.done r) (ltb-false (h.done r) h.len e))))
     charges (suc k) k< =
-        rw (often_suc, acting_suc, add_suc r k, add_mul)
+        rw (often_suc, acting_suc, add-suc r k, add-mul)
         (omega (arith, charges k (omega arith), slot_paid (r + k) (omega arith) (omega arith)))
 
     -- so are the charges of the first n slots

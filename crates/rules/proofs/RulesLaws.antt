@@ -4,7 +4,7 @@ use Prim.Native.Nat.{ℕ, ◌≤◌, ◌<◌}
 use mathlib.Core.Path.{◌≡◌, refl, sym, ◌∙◌, ap}
 use mathlib.Core.Bool.{cond}
 use mathlib.Core.List.{List, [], ◌∷◌, ◌++◌, append_assoc}
-use borrow.Author.Tests.{eqb_false, ltb_false, leb_false}
+use borrow.Author.Tests.{eqb-false, ltb-false, leb-false}
 use Rattle.trade.specs.Limits.{most_flows}
 use Rattle.trade.specs.Layout.{Sections}
 use Rattle.trade.specs.Facts.{Facts, facts_of, facts_in}
@@ -58,9 +58,9 @@ module _ (t : Tabled) where
 
 -- and then the place: the first rules of either change
 module _ {A : Type 0} (table : A → Tabled) (place : List (A → Answer)) (x : A) where
-  pub old_then_law : old_then (table x) (first_of place no_number x) ≡ first_of (on table old_rules ++ place) no_number x
+  pub old_then_lem : old_then (table x) (first_of place no_number x) ≡ first_of (on table old_rules ++ place) no_number x
   unfolding old_then
-  old_then_law = sym (first_of_on table old_rules place no_number x)
+  old_then_lem = sym (first_of_on table old_rules place no_number x)
 
   -- where they pass, those of the table passed, and those of the place
   pub old_passed : (first_of (on table old_rules ++ place) no_number x).code ≡ 0 → Passed (table x) old_rules
@@ -85,13 +85,13 @@ module _ (a : Adding) where
       {place : Answer}
       → place ≡ first_of (code14 ∷ (λ f. code15_adding f a.place) ∷ []) no_number (facts_in 0 a.table.sections.flows [] [] [])
       → old_then a.table place ≡ ask_answer a
-  enter_asked e = ap (old_then a.table) (e ∙ sym enter_count) ∙ old_then_law (λ b. b.table) enter_rules a
+  enter_asked e = ap (old_then a.table) (e ∙ sym enter_count) ∙ old_then_lem (λ b. b.table) enter_rules a
 
   -- and where they pass there is room there
   pub enter_room : Passed a enter_rules → (a.table.sections.flows ≡ most_flows → ⊥) × (a.place ≤ a.table.sections.flows)
   unfolding enter_rules code14 code15_adding facts_of
   enter_room p =
-      (eqb_false _ _ (given_passed 13 _ 0 (passed_head p)), ltb_false _ _ (given_passed 14 _ 0 (passed_head (passed_tail p))))
+      (eqb-false _ _ (given_passed 13 _ 0 (passed_head p)), ltb-false _ _ (given_passed 14 _ 0 (passed_head (passed_tail p))))
 
   -- the old table and the place decide, or the new table does
   in_two : add_answer a ≡ first_of ((on (λ b. b.table) old_rules ++ enter_rules) ++ on with_flow new_rules) no_number a
@@ -113,12 +113,12 @@ module _ (r : Removing) where
 
   pub leave_asked : {place : Answer} → place ≡ code15_removing (facts_in 0 r.table.sections.flows [] [] []) r.place → old_then r.table place ≡ remove_answer r
   unfolding remove_answer
-  leave_asked e = ap (old_then r.table) (e ∙ sym leave_count) ∙ old_then_law (λ q. q.table) leave_rules r
+  leave_asked e = ap (old_then r.table) (e ∙ sym leave_count) ∙ old_then_lem (λ q. q.table) leave_rules r
 
   -- and where it passes there is a flow there
   pub leave_there : Passed r leave_rules → r.place < r.table.sections.flows
   unfolding leave_rules code15_removing facts_of
-  leave_there p = leb_false _ _ (given_passed 14 _ 0 (passed_head p))
+  leave_there p = leb-false _ _ (given_passed 14 _ 0 (passed_head p))
 
 -- THE NEW TABLE: past its form, code 9
 pub new_nine : (t : Sections) → (code6 (facts_of t)).code ≡ 0 → (code8 (facts_of t)).code ≡ 0 → first_of new_rules no_number t ≡ code9 (facts_of t)

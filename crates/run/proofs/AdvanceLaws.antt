@@ -7,7 +7,7 @@ use mathlib.Core.List.{List, [], ◌∷◌}
 use native.Mathlib.Omega.{arith}
 use lib.Dec.{eqb, ltb}
 use lib.ListN.{length}
-use borrow.Author.Tests.{lt_ltb, le_ltb, eq_eqb, ne_eqb, eqb_true, eqb_false}
+use borrow.Author.Tests.{lt-ltb, le-ltb, eq-eqb, ne_eqb, eqb-true, eqb-false}
 use Rattle.trade.specs.Limits.{area_bytes, grant_bytes}
 use Rattle.trade.specs.Bytes.{over}
 use Rattle.trade.specs.Layout.{sections_of}
@@ -27,11 +27,11 @@ use Rattle.run.specs.Calls.{slot_answer, slot_granted, RunsSlot, Advances}
 -- memory that is too short, and memory that is not
 pub too_short : (needed : ℕ) (memory : List ℕ) → length memory < needed → code13 needed memory ≡ refused 13 0
 unfolding code13
-too_short needed memory h = given_true 13 (ltb (length memory) needed) 0 (lt_ltb (length memory) needed h)
+too_short needed memory h = given_true 13 (ltb (length memory) needed) 0 (lt-ltb (length memory) needed h)
 
 pub long_enough : (needed : ℕ) (memory : List ℕ) → needed ≤ length memory → code13 needed memory ≡ done 0
 unfolding code13
-long_enough needed memory h = given_false 13 (ltb (length memory) needed) 0 (le_ltb (length memory) needed h)
+long_enough needed memory h = given_false 13 (ltb (length memory) needed) 0 (le-ltb (length memory) needed h)
 
 -- a code other than 0 is a refusal
 pub refuses : {r : Answer} (code number : ℕ) → r ≡ refused (suc code) number → r.code ≡ 0 → ⊥
@@ -92,7 +92,7 @@ module _ (b area grants : List ℕ) where
   module _ (opened : (read_answer b).code ≡ 0) where
     left_to : advance_answer handed ≡ first_of area_rules count handed
     unfolding advance_answer_by read_answer is_done
-    left_to = first_of_on (λ (a : Advancing). a.book) book_rules area_rules count handed ∙ rw (eq_eqb (first_of book_rules no_number b).code 0 opened)
+    left_to = first_of_on (λ (a : Advancing). a.book) book_rules area_rules count handed ∙ rw (eq-eqb (first_of book_rules no_number b).code 0 opened)
 
     pub area_short : length area < area_bytes → advance_answer handed ≡ refused 13 0
     area_short h =
@@ -155,7 +155,7 @@ module _ (b area grants : List ℕ) where
           unfolding advance_by is_done
           slot_runs z =
               let passes : (slot_answer ours area).code ≡ 0 = ap (λ (x : Answer). x.code) same_answer ∙ z in
-              let all : advance_answer handed ≡ done (length (flows_granted handed)) = by_run ∙ rw (eq_eqb (slot_answer (said b) area).code 0 z) in
+              let all : advance_answer handed ≡ done (length (flows_granted handed)) = by_run ∙ rw (eq-eqb (slot_answer (said b) area).code 0 z) in
               record {
                 answer = ran.answer passes ∙ ap (λ (is : List ℕ). done (length is)) same_count ∙ sym all;
                 area = rw all (ran.area passes ∙ ap (λ (bytes : List ℕ). over bytes area) same_next);
@@ -171,5 +171,5 @@ module _ (b area grants : List ℕ) where
 
           pub slot_advances : Advances handed r left made
           slot_advances =
-              ⊎_elim (λ e. slot_runs (eqb_true (slot_answer (said b) area).code 0 e)) (λ e. slot_stops (eqb_false (slot_answer (said b) area).code 0 e))
+              ⊎_elim (λ e. slot_runs (eqb-true (slot_answer (said b) area).code 0 e)) (λ e. slot_stops (eqb-false (slot_answer (said b) area).code 0 e))
               (bool_cases (eqb (slot_answer (said b) area).code 0))

@@ -6,11 +6,11 @@ use mathlib.Core.Path.{◌≡◌, refl, sym, ◌∙◌, ap, ap₂}
 use mathlib.Core.Bool.{Bool, true, false, cond}
 use mathlib.Core.Logic.{⊎_elim}
 use mathlib.Core.List.{List, [], ◌∷◌, ◌++◌}
-use native.Mathlib.Nat.{add_zero}
+use native.Mathlib.Nat.{add-zero}
 use native.Mathlib.Omega.{arith}
 use lib.Dec.{ltb}
 use lib.ListN.{length}
-use borrow.Author.Tests.{lt_ltb, le_ltb, ltb_true}
+use borrow.Author.Tests.{lt-ltb, le-ltb, ltb-true}
 use Rattle.trade.specs.Limits.{most_flows, grant_bytes, end_of_clock}
 use Rattle.trade.specs.Bytes.{two_bytes, four_bytes, bit, over}
 use Rattle.trade.specs.Layout.{field}
@@ -69,8 +69,8 @@ module _
     bad_read : (i : ℕ) → i < most_flows → bad_place part read (state_of run) i ≡ bad_place facts due state i
     unfolding bad_place facts_of state_of
     bad_read i h =
-        ⊎_elim (λ (l : i < flows). rw (lt_ltb i flows l, held.slot, held.places i h))
-        (λ (l : flows ≤ i). rw (le_ltb i flows l, held.places i h))
+        ⊎_elim (λ (l : i < flows). rw (lt-ltb i flows l, held.slot, held.places i h))
+        (λ (l : flows ≤ i). rw (le-ltb i flows l, held.places i h))
         (lt_or_ge i flows)
 
     overrun_read : (i : ℕ) → i < flows → overrun part read (state_of run) i ≡ overrun facts due state i
@@ -123,7 +123,7 @@ module _
         unfolding granted_by unfinished done_now state_of facts_of
         busy i e =
             let (below, work) = going_below (greedy facts none_due (state_of after)) (unfinished facts none_due (state_of after)) flows i (sym (chosen.goes i) ∙ e) in
-            (below, ltb_true (place_of after.flows i) (field records i 4) work)
+            (below, ltb-true (place_of after.flows i) (field records i 4) work)
 
         -- of the places, none is past the flows
         places_are : places_in choice.places most_flows ≡ slot_granted facts area
@@ -181,7 +181,7 @@ module _
           stays i h l =
               ⊎_elim (λ (e : bit choice.places i ≡ true). absurd (omega (arith, (busy i e).0)))
               (λ (e : bit choice.places i ≡ false).
-              rw (e, add_zero (place_of after.flows i)) (made.others i l ∙ held.places i h ∙ unused_zero facts due state passes i h l))
+              rw (e, add-zero (place_of after.flows i)) (made.others i l ∙ held.places i h ∙ unused_zero facts due state passes i h l))
               (bool_cases (bit choice.places i))
 
           slot_is : (state_of out.run).slot ≡ (next_state facts due state).slot
@@ -192,8 +192,8 @@ module _
           unfolding state_of next_state_by
           places_out i h =
               ⊎_elim
-              (λ (l : i < flows). rw (lt_ltb i flows l) (gave.places i ∙ ap₂ (λ (d : ℕ) (b : Bool). d + one b) (done_is i l) (goes_is i)))
-              (λ (l : flows ≤ i). rw (le_ltb i flows l) (gave.places i ∙ stays i h l))
+              (λ (l : i < flows). rw (lt-ltb i flows l) (gave.places i ∙ ap₂ (λ (d : ℕ) (b : Bool). d + one b) (done_is i l) (goes_is i)))
+              (λ (l : flows ≤ i). rw (le-ltb i flows l) (gave.places i ∙ stays i h l))
               (lt_or_ge i flows)
 
           pub ran : RunsSlot facts area room (done out.count) (over (area_of most_flows (state_of out.run)) area) left

@@ -5,7 +5,7 @@ use mathlib.Core.Path.{◌≡◌, sym, ◌∙◌, ap}
 use mathlib.Core.Logic.{⊎_elim}
 use mathlib.Core.List.{List, [], ◌∷◌}
 use lib.ListN.{length}
-use borrow.Author.Tests.{lt_ltb, le_ltb, eq_eqb, ne_eqb}
+use borrow.Author.Tests.{lt-ltb, le-ltb, eq-eqb, ne_eqb}
 use Rattle.trade.specs.Limits.{most_flows, area_bytes}
 use Rattle.trade.specs.Bytes.{over}
 use Rattle.trade.specs.Layout.{sections_of}
@@ -50,7 +50,7 @@ module _ (b area : List ℕ) where
     unfolding start_answer_by check_answer_by is_done
     left_to =
         first_of_on (λ (s : Starting). s.book) check_rules (area_rule ∷ []) no_number handed
-        ∙ rw (eq_eqb (first_of check_rules no_number b).code 0 checks)
+        ∙ rw (eq-eqb (first_of check_rules no_number b).code 0 checks)
 
     pub start_short : length area < area_bytes → start_answer handed ≡ refused 13 0
     start_short h =
@@ -78,6 +78,6 @@ module _ (b area : List ℕ) where
         where
           places : (i : ℕ) → i < most_flows → (state_of run).done i ≡ place_byte (said b).flows (at_start (said b)) i
           places i h =
-              ⊎_elim (λ (l : i < (said b).flows). rw (lt_ltb i (said b).flows l) (idle.places i l))
-              (λ (l : (said b).flows ≤ i). rw (le_ltb i (said b).flows l) (idle.others i l))
+              ⊎_elim (λ (l : i < (said b).flows). rw (lt-ltb i (said b).flows l) (idle.places i l))
+              (λ (l : (said b).flows ≤ i). rw (le-ltb i (said b).flows l) (idle.others i l))
               (lt_or_ge i (said b).flows)

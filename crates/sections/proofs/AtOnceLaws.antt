@@ -2,14 +2,14 @@
 -- as a bad one or as the first of such a plan. Leans on BadStep. Assumes nothing.
 use Prim.Native.Nat.{ℕ, zero, suc, ◌+◌, ◌-◌, ◌*◌, ◌/◌, ◌%◌, ◌≤◌, ◌<◌}
 use mathlib.Core.Path.{◌≡◌, refl, sym, ◌∙◌, ap}
-use mathlib.Core.Bool.{Bool, true, false, not, ◌&&◌, ◌||◌, or_false}
+use mathlib.Core.Bool.{Bool, true, false, not, ◌&&◌, ◌||◌, or-false}
 use mathlib.Core.List.{List}
 use mathlib.Core.Logic.{⊎_elim}
-use native.Mathlib.Nat.{add_zero}
-use native.Mathlib.Numerals.{add_one}
+use native.Mathlib.Nat.{add-zero}
+use native.Mathlib.Numerals.{add-one}
 use native.Mathlib.Omega.{arith}
 use lib.Dec.{eqb}
-use borrow.Author.Tests.{eq_eqb, ne_eqb, eqb_true, lt_leb}
+use borrow.Author.Tests.{eq-eqb, ne_eqb, eqb-true, lt-leb}
 use Rattle.trade.specs.Limits.{step_bytes}
 use Rattle.trade.specs.Bytes.{byte}
 use Rattle.trade.specs.First.{sum_to}
@@ -23,22 +23,22 @@ use Rattle.trade.proofs.First.{bool_cases, not_both, and_true}
 use Rattle.trade.proofs.Answers.{given_first_none}
 use Rattle.trade.proofs.Sums.{sum_next, sum_le}
 use Rattle.sections.specs.Steps.{misplaced, unjoined, own, off, fresh, starts_anew}
-use Rattle.sections.proofs.StepsLaws.{by_tests, first_of_plan_law}
+use Rattle.sections.proofs.StepsLaws.{by_tests, first_of_plan_lem}
 
 -- a step repeats itself
 pub unjoined_self : (t : Transmission) → unjoined t t ≡ false
 unfolding unjoined repeats
-unjoined_self t = rw (eq_eqb t.sender.0 t.sender.0 refl, eq_eqb t.receiver.0 t.receiver.0 refl) refl
+unjoined_self t = rw (eq-eqb t.sender.0 t.sender.0 refl, eq-eqb t.receiver.0 t.receiver.0 refl) refl
 
 -- the first step of all is off only by itself
 pub off_alone : (steps : List ℕ) → off steps 0 ≡ own (step_in steps 0)
 unfolding off
-off_alone steps = rw (unjoined_self (step_in steps 0)) (or_false (own (step_in steps 0)))
+off_alone steps = rw (unjoined_self (step_in steps 0)) (or-false (own (step_in steps 0)))
 
 -- a step between nodes that are there is bad by itself if it goes to its own sender
 misplaced_own : (n : ℕ) (t : Transmission) → t.sender.0 < n → t.receiver.0 < n → misplaced n t ≡ own t
 unfolding misplaced own
-misplaced_own n t s r = rw (lt_leb n t.sender.0 s, lt_leb n t.receiver.0 r) refl
+misplaced_own n t s r = rw (lt-leb n t.sender.0 s, lt-leb n t.receiver.0 r) refl
 
 -- two numbers of two bytes are equal if both bytes are
 pub both_equal : (a b : ℕ) → eqb a b ≡ (eqb (a % 256) (b % 256) && eqb (a / 256) (b / 256))
@@ -47,20 +47,20 @@ both_equal a b = ⊎_elim same other (bool_cases (eqb (a % 256) (b % 256) && eqb
     same : (eqb (a % 256) (b % 256) && eqb (a / 256) (b / 256)) ≡ true → eqb a b ≡ (eqb (a % 256) (b % 256) && eqb (a / 256) (b / 256))
     same e =
         let p = and_true (eqb (a % 256) (b % 256)) (eqb (a / 256) (b / 256)) e in
-        let l : a % 256 ≡ b % 256 = eqb_true (a % 256) (b % 256) p.0 in
-        let h : a / 256 ≡ b / 256 = eqb_true (a / 256) (b / 256) p.1 in
-        eq_eqb a b (omega arith) ∙ sym e
+        let l : a % 256 ≡ b % 256 = eqb-true (a % 256) (b % 256) p.0 in
+        let h : a / 256 ≡ b / 256 = eqb-true (a / 256) (b / 256) p.1 in
+        eq-eqb a b (omega arith) ∙ sym e
 
     other : (eqb (a % 256) (b % 256) && eqb (a / 256) (b / 256)) ≡ false → eqb a b ≡ (eqb (a % 256) (b % 256) && eqb (a / 256) (b / 256))
     other e =
         ne_eqb a b
-        (λ (q : a ≡ b). not_both (rw (q, eq_eqb (b % 256) (b % 256) refl, eq_eqb (b / 256) (b / 256) refl) refl) e)
+        (λ (q : a ≡ b). not_both (rw (q, eq-eqb (b % 256) (b % 256) refl, eq-eqb (b / 256) (b / 256) refl) refl) e)
         ∙ sym e
 
 -- a sum over two runs of indices
 sum_over : (g : ℕ → ℕ) (a b : ℕ) → sum_to g (a + b) ≡ sum_to g a + sum_to (λ j. g (a + j)) b
 unfolding sum_to
-sum_over g a zero = rw (add_zero a) (omega arith)
+sum_over g a zero = rw (add-zero a) (omega arith)
 sum_over g a (suc b) =
     let e : a + suc b ≡ suc (a + b) = omega arith in
     rw e (omega (arith, sum_over g a b))
@@ -71,7 +71,7 @@ unfolding sum_to
 sum_none g = refl
 
 pub sum_more : (g : ℕ → ℕ) (n : ℕ) → sum_to g (n + 1) ≡ sum_to g n + g n
-sum_more g n = ap (sum_to g) (add_one n) ∙ sum_next g n
+sum_more g n = ap (sum_to g) (add-one n) ∙ sum_next g n
 
 -- a sum of zero has no other figure
 sum_zero : (g : ℕ → ℕ) (n k : ℕ) → sum_to g n ≡ 0 → k < n → g k ≡ 0
@@ -109,7 +109,7 @@ module _
     unfolding off facts_of first_step
     off_later i j l h =
         let f : Facts = facts_in n m rows records steps in
-        sym (by_tests f (first_step f i + suc j) ∙ rw (first_of_plan_law f i (suc j) l h, ne_eqb (suc j) 0 (λ e. omega arith), inside (first_step f i + suc j) (among i (suc j) l h)) refl)
+        sym (by_tests f (first_step f i + suc j) ∙ rw (first_of_plan_lem f i (suc j) l h, ne_eqb (suc j) 0 (λ e. omega arith), inside (first_step f i + suc j) (among i (suc j) l h)) refl)
 
     -- the first of its plan is off if it is bad, or if it starts anew
     off_first :
@@ -124,7 +124,7 @@ module _
         let s : ℕ = first_step f i in
         let t : Transmission = step_in steps s in
         let first : bad_step f s ≡ (own t || false) =
-        rw (← add_zero s) (by_tests f (s + 0) ∙ rw (first_of_plan_law f i 0 l h, inside (s + 0) (among i 0 l h)) refl) in
+        rw (← add-zero s) (by_tests f (s + 0) ∙ rw (first_of_plan_lem f i 0 l h, inside (s + 0) (among i 0 l h)) refl) in
         rw (first, ne_eqb (field records i 4) 0 (λ e. omega arith)) (split (own t) (unjoined t (step_in steps (s - 1))))
 
     -- the steps of a plan that are off: its bad ones, and one more if it starts anew
@@ -135,7 +135,7 @@ module _
         → sum_to (λ k. one (off steps (first_step (facts_in n m rows records steps) i + k))) (suc j)
         ≡ one (starts_anew records steps i) + sum_to (λ k. one (bad_step (facts_in n m rows records steps) (first_step (facts_in n m rows records steps) i + k))) (suc j)
     unfolding sum_to
-    off_in_plan i zero l h = rw (add_zero (first_step (facts_in n m rows records steps) i)) (omega (arith, off_first i l h))
+    off_in_plan i zero l h = rw (add-zero (first_step (facts_in n m rows records steps) i)) (omega (arith, off_first i l h))
     off_in_plan i (suc j) l h = rw (off_later i j l h) (omega (arith, off_in_plan i j l (omega arith)))
 
     -- the same of a plan with any number of steps
@@ -147,7 +147,7 @@ module _
         → sum_to (λ k. one (off steps (first_step (facts_in n m rows records steps) i + k))) len
         ≡ one (starts_anew records steps i) + sum_to (λ k. one (bad_step (facts_in n m rows records steps) (first_step (facts_in n m rows records steps) i + k))) len
     unfolding sum_to one starts_anew
-    off_in_whole i l zero e = rw (eq_eqb (field records i 4) 0 (sym e)) refl
+    off_in_whole i l zero e = rw (eq-eqb (field records i 4) 0 (sym e)) refl
     off_in_whole i l (suc j) e = off_in_plan i j l (omega arith)
 
     -- and of all the plans before one

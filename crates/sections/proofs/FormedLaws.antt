@@ -4,7 +4,7 @@ use Prim.Native.Nat.{ℕ, ◌+◌, ◌*◌, ◌≤◌, ◌<◌, suc, ◌-◌}
 use mathlib.Core.Path.{◌≡◌}
 use mathlib.Core.List.{List}
 use native.Mathlib.Omega.{arith}
-use lib.ListN.{length, drop, length_drop}
+use lib.ListN.{length, drop, length-drop}
 use Rattle.trade.specs.Limits.{most_nodes, most_flows, row_bytes, record_bytes, step_bytes, most_steps}
 use Rattle.trade.specs.Layout.{Sections, field}
 use Rattle.trade.specs.Facts.{facts_of, first_step, all_steps}
@@ -12,7 +12,7 @@ use Rattle.trade.specs.Codes.{bad_record, code6, code8}
 use Rattle.trade.proofs.Answers.{given_first_passed}
 use Rattle.trade.proofs.Valid.{sound, placed}
 use Rattle.sections.specs.Formed.{Formed, plan_start, plan_at}
-use lib.Seq.{length_take_le}
+use lib.Seq.{length-take-le}
 use Rattle.trade.specs.First.{sum_to}
 use Rattle.trade.specs.Bytes.{part}
 use Rattle.trade.proofs.Sums.{sum_le, sum_next}
@@ -75,9 +75,9 @@ module _ (k : ℕ) (rows records steps : List ℕ) (f : Formed k rows records st
   unfolding part
   length_plan =
       let at : ℕ = step_bytes * plan_start records i in
-      let size : length (drop at steps) ≡ length steps - at = length_drop at steps in
+      let size : length (drop at steps) ≡ length steps - at = length-drop at steps in
       let fits : step_bytes * field records i 4 ≤ length (drop at steps) = omega (arith, plan_lies) in
-      omega (arith, length_take_le (step_bytes * field records i 4) (drop at steps) fits, (f.fields i l).len.1)
+      omega (arith, length-take-le (step_bytes * field records i 4) (drop at steps) fits, (f.fields i l).len.1)
 
   pub plan_within : AllWithin rows (plan_at records steps i)
   plan_within =

@@ -1,6 +1,6 @@
 -- A record read out of a part of the records; what code 6 tests of one: its fields, and its id against the earlier ones. Leans on the
 -- numbers' NumbersLaws. Assumes nothing.
-use native.Mathlib.Nat.{add_zero}
+use native.Mathlib.Nat.{add-zero}
 use native.Mathlib.Omega.{arith}
 use lib.ListN.{drop, length, get_or, set}
 use Rattle.trade.specs.Limits.{record_bytes, most_steps, most_id, most_phase, most_period}
@@ -14,8 +14,8 @@ use mathlib.Core.List.{List, []}
 use mathlib.Core.Bool.{Bool, true, false, ◌||◌}
 use mathlib.Core.Logic.{⊎_elim}
 use lib.Dec.{eqb}
-use lib.Seq.{get_or_set_same, get_or_set_other}
-use borrow.Author.Tests.{eq_eqb, ne_eqb, eqb_true, eqb_false}
+use lib.Seq.{get_or-set_same, get_or-set_other}
+use borrow.Author.Tests.{eq-eqb, ne_eqb, eqb-true, eqb-false}
 use Rattle.trade.specs.First.{some}
 use Rattle.trade.specs.Codes.{outside, bad_record}
 use Rattle.trade.proofs.First.{bool_cases, not_both, lt_or_ge, some_none}
@@ -38,12 +38,12 @@ or_last a s b c d e =
     ∙ ap (λ (x : Bool). x || e) (or_swap (a || b || c) s d)
     ∙ or_swap (a || b || c || d) s e)
 
-pub bad_record_law :
+pub bad_record_lem :
     (records : List ℕ) (i : ℕ)
     → (misfit (flow_in records i) || some (λ j. eqb (field records j 0) (field records i 0)) i)
     ≡ bad_record (facts_in 0 0 [] records []) i
 unfolding misfit flow_in bad_record facts_of
-bad_record_law records i =
+bad_record_lem records i =
     or_last (outside 1 most_id (field records i 0)) (some (λ j. eqb (field records j 0) (field records i 0)) i)
     (outside 0 most_phase (field records i 1)) (outside 1 most_period (field records i 2))
     (outside 1 (field records i 2) (field records i 3)) (outside 1 most_steps (field records i 4))
@@ -60,7 +60,7 @@ unmet marks records i marked none =
     ne_eqb (field records j 0) (field records i 0)
     (λ (e : field records j 0 ≡ field records i 0).
     let mark : get_or marks (field records i 0 % 256) 0 ≡ 1 = rw e at (marked j h) in
-    not_both (eq_eqb (get_or marks (field records i 0 % 256) 0) 1 mark) none))
+    not_both (eq-eqb (get_or marks (field records i 0 % 256) 0) 1 mark) none))
 
 -- and one more mark
 pub mark_more :
@@ -79,21 +79,21 @@ mark_more marks records i room marked k h = ⊎_elim same other (bool_cases (eqb
         eqb (field records k 0 % 256) (field records i 0 % 256) ≡ true
         → get_or (set marks (field records i 0 % 256) 1) (field records k 0 % 256) 0 ≡ 1
     same e =
-        rw (eqb_true (field records k 0 % 256) (field records i 0 % 256) e)
-        (get_or_set_same marks (field records i 0 % 256) 1 0 (omega arith))
+        rw (eqb-true (field records k 0 % 256) (field records i 0 % 256) e)
+        (get_or-set_same marks (field records i 0 % 256) 1 0 (omega arith))
 
     other :
         eqb (field records k 0 % 256) (field records i 0 % 256) ≡ false
         → get_or (set marks (field records i 0 % 256) 1) (field records k 0 % 256) 0 ≡ 1
     other e =
-        let apart = eqb_false (field records k 0 % 256) (field records i 0 % 256) e in
-        get_or_set_other marks (field records i 0 % 256) (field records k 0 % 256) 1 0 apart
+        let apart = eqb-false (field records k 0 % 256) (field records i 0 % 256) e in
+        get_or-set_other marks (field records i 0 % 256) (field records k 0 % 256) 1 0 apart
         ∙ marked k (below k i h (λ (q : k ≡ i). apart (ap (λ j. field records j 0 % 256) q)))
 
 -- the first field of a record stands where the record does
 pub field_first : (records : List ℕ) (i : ℕ) → word records (record_bytes * i) ≡ field records i 0
 unfolding field
-field_first records i = ap (word records) (sym (add_zero (record_bytes * i)))
+field_first records i = ap (word records) (sym (add-zero (record_bytes * i)))
 
 -- a record read at its place in the records, or at the front of the part that starts there
 field_part : (records : List ℕ) (i k : ℕ) → word (drop (record_bytes * i) records) (record_bytes * 0 + 2 * k) ≡ field records i k

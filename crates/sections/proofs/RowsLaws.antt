@@ -1,14 +1,14 @@
 -- What code 5 tests of one row, said of the row as a number of 64 bits. Leans on the bits of masks. Assumes nothing.
 use Prim.Native.Nat.{ℕ, zero, suc, ◌+◌, ◌-◌, ◌*◌, ◌/◌, ◌%◌, ◌^◌, ◌≤◌, ◌<◌}
 use mathlib.Core.Path.{◌≡◌, refl, sym, ◌∙◌, ap}
-use mathlib.Core.Bool.{Bool, true, false, not, ◌&&◌, ◌||◌, and_false}
+use mathlib.Core.Bool.{Bool, true, false, not, ◌&&◌, ◌||◌, and-false}
 use mathlib.Core.Logic.{◌⊎◌, inl, inr}
 use mathlib.Core.List.{List, []}
 use native.Mathlib.Omega.{arith}
-use native.Mathlib.Nat.{div_lt_iff_lt_mul, pow_suc}
+use native.Mathlib.Nat.{div-lt_iff_lt-mul, pow-suc}
 use lib.Dec.{eqb, leb}
-use lib.Pow.{shr_lt, shr_shr}
-use borrow.Author.Tests.{eqb_true, eqb_false, eq_eqb, le_leb, lt_leb}
+use lib.Pow.{shr_lt, shr-shr}
+use borrow.Author.Tests.{eqb-true, eqb-false, eq-eqb, le-leb, lt-leb}
 use Rattle.trade.specs.Limits.{most_nodes}
 use Rattle.trade.specs.First.{some}
 use Rattle.trade.specs.Bytes.{byte, bit}
@@ -28,17 +28,17 @@ has_bit (suc k) a h n = step (λ l m. has_bit k (a / 2) l m) (lt_or_ge (a % 2) 1
         → (a % 2 < 1) ⊎ (1 ≤ a % 2)
         → (y : ℕ) × (y < suc k) × (bit a y ≡ true)
     step rest (inl e) =
-        let p : a < 2 ^ k * 2 = rw (← pow_suc 2 k) h in
-        let r = rest ((div_lt_iff_lt_mul (omega arith)).1 p) (λ z. n (omega arith)) in
+        let p : a < 2 ^ k * 2 = rw (← pow-suc 2 k) h in
+        let r = rest ((div-lt_iff_lt-mul (omega arith)).1 p) (λ z. n (omega arith)) in
         (suc r.0, omega (arith, r.1), bit_suc a r.0 ∙ r.2)
     step rest (inr e) =
         let o : a % 2 ≡ 1 = omega arith in
-        (0, omega arith, bit_zero a ∙ eq_eqb (a % 2) 1 o)
+        (0, omega arith, bit_zero a ∙ eq-eqb (a % 2) 1 o)
 
 -- a bit above a shift is a bit of what is shifted
 bit_shifted : (a n y : ℕ) → bit (a / 2 ^ n) y ≡ bit a (n + y)
 unfolding bit
-bit_shifted a n y = rw (shr_shr a n y)
+bit_shifted a n y = rw (shr-shr a n y)
 
 -- of a set of 64 nodes: its own node x, or one at or above n
 pub own_or_above :
@@ -56,8 +56,8 @@ own_or_above set n x fits l u = cases (bool_cases (bit set x)) (bool_cases (eqb 
     none p z y h = outside (bool_cases (eqb y x)) (lt_or_ge y n)
       where
         outside : (eqb y x ≡ true) ⊎ (eqb y x ≡ false) → (y < n) ⊎ (n ≤ y) → (bit set y && (eqb y x || leb n y)) ≡ false
-        outside (inl e) b = let s : y ≡ x = eqb_true y x e in rw (s, p)
-        outside (inr e) (inl b) = rw (e, lt_leb n y b) (and_false (bit set y))
+        outside (inl e) b = let s : y ≡ x = eqb-true y x e in rw (s, p)
+        outside (inr e) (inl b) = rw (e, lt-leb n y b) (and-false (bit set y))
         outside (inr e) (inr b) =
             let s : y ≡ n + (y - n) = omega arith in
             let f : bit set y ≡ false = ap (bit set) s ∙ sym (bit_shifted set n (y - n)) ∙ ap (λ (v : ℕ). bit v (y - n)) z ∙ bit_none (y - n) in
@@ -67,18 +67,18 @@ own_or_above set n x fits l u = cases (bool_cases (bit set x)) (bool_cases (eqb 
         (bit set x ≡ true) ⊎ (bit set x ≡ false)
         → (eqb (set / 2 ^ n) 0 ≡ true) ⊎ (eqb (set / 2 ^ n) 0 ≡ false)
         → some (λ y. bit set y && (eqb y x || leb n y)) 64 ≡ (bit set x || not (eqb (set / 2 ^ n) 0))
-    cases (inl p) q = rw p (some_intro (λ y. bit set y && (eqb y x || leb n y)) 64 x (omega arith) (rw (p, eq_eqb x x refl)))
-    cases (inr p) (inl q) = rw (p, q) (some_none (λ y. bit set y && (eqb y x || leb n y)) 64 (none p (eqb_true _ _ q)))
+    cases (inl p) q = rw p (some_intro (λ y. bit set y && (eqb y x || leb n y)) 64 x (omega arith) (rw (p, eq-eqb x x refl)))
+    cases (inr p) (inl q) = rw (p, q) (some_none (λ y. bit set y && (eqb y x || leb n y)) 64 (none p (eqb-true _ _ q)))
     cases (inr p) (inr q) =
         let e : 64 - n + n ≡ 64 = omega arith in
         let small : set / 2 ^ n < 2 ^ (64 - n) = shr_lt (64 - n) n (rw e fits) in
-        let r = has_bit (64 - n) (set / 2 ^ n) small (eqb_false _ _ q) in
+        let r = has_bit (64 - n) (set / 2 ^ n) small (eqb-false _ _ q) in
         rw (p, q)
         (some_intro (λ y. bit set y && (eqb y x || leb n y)) 64 (n + r.0) (omega (arith, r.1))
-        (both (sym (bit_shifted set n r.0) ∙ r.2) (or_right (eqb (n + r.0) x) (leb n (n + r.0)) (le_leb n (n + r.0) (omega arith)))))
+        (both (sym (bit_shifted set n r.0) ∙ r.2) (or_right (eqb (n + r.0) x) (leb n (n + r.0)) (le-leb n (n + r.0) (omega arith)))))
 
 -- the tests of a row of bytes
-pub bad_row_law :
+pub bad_row_lem :
     (n : ℕ) (rows : List ℕ) (x : ℕ)
     → ((i : ℕ) → byte rows i < 2 ^ 8)
     → row_mask rows x < 2 ^ 64
@@ -86,7 +86,7 @@ pub bad_row_law :
     → n ≤ most_nodes
     → (bit (row_mask rows x) x || not (eqb (row_mask rows x / 2 ^ n) 0)) ≡ bad_row (facts_in n 0 rows [] []) x
 unfolding bad_row facts_of
-bad_row_law n rows x bytes fits l u =
+bad_row_lem n rows x bytes fits l u =
     sym
     (some_cong (λ (y : ℕ). disturbs_in rows x y && (eqb y x || leb n y)) (λ (y : ℕ). bit (row_mask rows x) y && (eqb y x || leb n y)) 64
     (λ y h. ap (λ (b : Bool). b && (eqb y x || leb n y)) (sym (bit_row rows bytes x y h)))

@@ -4,12 +4,12 @@ use mathlib.Core.Path.{◌≡◌, refl, sym, ◌∙◌, ap}
 use mathlib.Core.Bool.{false, not, ◌&&◌, ◌||◌}
 use mathlib.Core.List.{List}
 use mathlib.Core.Logic.{◌⊎◌, inl, inr, ⊎_elim}
-use native.Mathlib.Nat.{add_assoc, mul_add}
+use native.Mathlib.Nat.{add_assoc, mul-add}
 use native.Mathlib.Omega.{arith}
 use lib.Dec.{eqb}
 use lib.ListN.{drop}
-use lib.Seq.{get_or_drop}
-use borrow.Author.Tests.{eq_eqb, ne_eqb}
+use lib.Seq.{get_or-drop}
+use borrow.Author.Tests.{eq-eqb, ne_eqb}
 use Rattle.trade.specs.Limits.{step_bytes}
 use Rattle.trade.specs.First.{first, sum_to}
 use Rattle.trade.specs.Answers.{refused}
@@ -26,19 +26,19 @@ pub step_drop : (steps : List ℕ) (a j : ℕ) → step_in (drop (step_bytes * a
 unfolding step_in
 step_drop steps a j =
     rw (
-      get_or_drop (step_bytes * a) steps (step_bytes * j) 0,
-      get_or_drop (step_bytes * a) steps (step_bytes * j + 1) 0,
-      mul_add step_bytes a j,
+      get_or-drop (step_bytes * a) steps (step_bytes * j) 0,
+      get_or-drop (step_bytes * a) steps (step_bytes * j + 1) 0,
+      mul-add step_bytes a j,
       add_assoc (step_bytes * a) (step_bytes * j) 1,
     )
 
 -- the first step of a plan, and no other, is the first of some plan
-pub first_of_plan_law : (f : Facts) (i j : ℕ) → i < f.flows → j < f.len i → first_of_plan f (first_step f i + j) ≡ eqb j 0
+pub first_of_plan_lem : (f : Facts) (i j : ℕ) → i < f.flows → j < f.len i → first_of_plan f (first_step f i + j) ≡ eqb j 0
 unfolding first_of_plan first_step
-first_of_plan_law f i zero l h =
+first_of_plan_lem f i zero l h =
     some_intro (λ (k : ℕ). eqb (sum_to f.len k) (sum_to f.len i + 0)) f.flows i l
-    (eq_eqb (sum_to f.len i) (sum_to f.len i + 0) (omega arith))
-first_of_plan_law f i (suc j) l h =
+    (eq-eqb (sum_to f.len i) (sum_to f.len i + 0) (omega arith))
+first_of_plan_lem f i (suc j) l h =
     rw (ne_eqb (suc j) 0 (λ e. omega arith))
     (some_none (λ (k : ℕ). eqb (sum_to f.len k) (sum_to f.len i + suc j)) f.flows
     (λ k b. ne_eqb (sum_to f.len k) (sum_to f.len i + suc j) (λ e. between k e (lt_or_ge i k))))
@@ -53,24 +53,24 @@ unfolding bad_step misplaced unjoined
 by_tests f k = refl
 
 -- the same tests by the step's place in its plan
-pub bad_step_law :
+pub bad_step_lem :
     (n m : ℕ) (rows records steps : List ℕ) (i j : ℕ)
     → i < m
     → j < field records i 4
     → bad_step (facts_in n m rows records steps) (first_step (facts_in n m rows records steps) i + j)
     ≡ bad_in_plan n (drop (step_bytes * first_step (facts_in n m rows records steps) i) steps) j
 unfolding bad_in_plan facts_of
-bad_step_law n m rows records steps i zero l h =
+bad_step_lem n m rows records steps i zero l h =
     let f : Facts = facts_in n m rows records steps in
     let s : ℕ = first_step f i in
     by_tests f (s + 0)
-    ∙ rw (first_of_plan_law f i 0 l h) (ap (λ t. misplaced n t || false) (sym (step_drop steps s 0)))
-bad_step_law n m rows records steps i (suc j) l h =
+    ∙ rw (first_of_plan_lem f i 0 l h) (ap (λ t. misplaced n t || false) (sym (step_drop steps s 0)))
+bad_step_lem n m rows records steps i (suc j) l h =
     let f : Facts = facts_in n m rows records steps in
     let s : ℕ = first_step f i in
     let e : s + suc j - 1 ≡ s + (suc j - 1) = omega arith in
     by_tests f (s + suc j)
-    ∙ rw (first_of_plan_law f i (suc j) l h, e, step_drop steps s (suc j), step_drop steps s (suc j - 1)) refl
+    ∙ rw (first_of_plan_lem f i (suc j) l h, e, step_drop steps s (suc j), step_drop steps s (suc j - 1)) refl
 
 -- the steps of a plan lie among those of all plans
 pub plan_room :
@@ -99,7 +99,7 @@ module _
         let e : k ≡ s + j = omega arith in
         let in_plan : j < first (bad_in_plan n plan) (field records i 4) = omega arith in
         ap (bad_step (facts_in n m rows records steps)) e
-        ∙ bad_step_law n m rows records steps i j l (omega (arith, first_within (bad_in_plan n plan) (field records i 4)))
+        ∙ bad_step_lem n m rows records steps i j l (omega (arith, first_within (bad_in_plan n plan) (field records i 4)))
         ∙ first_before (bad_in_plan n plan) (field records i 4) j in_plan)
         (lt_or_ge k (first_step (facts_in n m rows records steps) i))
 
@@ -116,7 +116,7 @@ module _
         given_first_at 8 (bad_step (facts_in n m rows records steps)) (sum_to len m) (s + first (bad_in_plan n plan) (len i))
         (omega (arith, sum_next len i, sum_le len (suc i) m l))
         so_far
-        (bad_step_law n m rows records steps i (first (bad_in_plan n plan) (len i)) l h ∙ first_holds (bad_in_plan n plan) (len i) h)
+        (bad_step_lem n m rows records steps i (first (bad_in_plan n plan) (len i)) l h ∙ first_holds (bad_in_plan n plan) (len i) h)
 
     -- none: no step of the plans up to this one is bad
     pub none_found :

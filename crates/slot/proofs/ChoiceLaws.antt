@@ -2,16 +2,16 @@
 -- Leans on the trade's Slot. Assumes nothing.
 use Prim.Native.Nat.{ℕ, suc, ◌+◌, ◌^◌, ◌≤◌, ◌<◌}
 use mathlib.Core.Path.{◌≡◌, refl, sym, ◌∙◌, ap}
-use mathlib.Core.Bool.{Bool, true, false, cond, not, ◌&&◌, or_true, or_false}
+use mathlib.Core.Bool.{Bool, true, false, cond, not, ◌&&◌, or-true, or-false}
 use mathlib.Core.Logic.{⊎_elim}
-use mathlib.Core.List.{List, [], ◌∷◌, ◌++◌, map, map_append}
+use mathlib.Core.List.{List, [], ◌∷◌, ◌++◌, map, map-append}
 use native.Mathlib.Omega.{arith}
 use lib.Dec.{eqb, ltb}
 use lib.Bits.{bit_or}
-use lib.ListN.{length, replicate, length_set}
+use lib.ListN.{length, replicate, length-set}
 use lib.ListN as lists
-use lib.Seq.{get_or_set_same, get_or_set_other}
-use borrow.Author.Tests.{lt_ltb, le_ltb, ltb_true, eqb_true, eqb_false}
+use lib.Seq.{get_or-set_same, get_or-set_other}
+use borrow.Author.Tests.{lt-ltb, le-ltb, ltb-true, eqb-true, eqb-false}
 use Rattle.trade.specs.Limits.{most_flows}
 use Rattle.trade.specs.Bytes.{bit}
 use Rattle.trade.specs.Layout.{field}
@@ -69,8 +69,8 @@ module _ (flows : ℕ) (rows records steps : List ℕ) (state : State) where
     unfolding next_of plan_step next_step done_now step_of first_step facts_of
     turn_next h =
         rw (
-          lt_ltb (state.done i) (field records i 4) h,
-          lt_ltb (first_step facts i + state.done i) (steps_in steps) (omega (arith, plan_ends records i flows taken, formed.planned)),
+          lt-ltb (state.done i) (field records i 4) h,
+          lt-ltb (first_step facts i + state.done i) (steps_in steps) (omega (arith, plan_ends records i flows taken, formed.planned)),
         )
 
     pub next_within : state.done i < field records i 4 → Within rows (next_step facts none_due state i)
@@ -89,7 +89,7 @@ module _ (flows : ℕ) (rows records steps : List ℕ) (state : State) where
       busy : picked ≡ true → state.done i < field records i 4
       unfolding unfinished done_now facts_of
       busy e =
-          ltb_true (state.done i) (field records i 4)
+          ltb-true (state.done i) (field records i 4)
           (and_true (unfinished facts none_due state i) (not (greedy facts none_due state (goers i) i)) e).0
 
       goes_as : goes_now rows steps turn set ≡ picked
@@ -99,7 +99,7 @@ module _ (flows : ℕ) (rows records steps : List ℕ) (state : State) where
           (λ (l : state.done i < field records i 4).
           ap (λ (b : Bool). ltb (state.done i) (field records i 4) && not b)
           (ap (clashes_with rows set) (turn_next l) ∙ so.holds (next_step facts none_due state i) (next_within l)))
-          (λ (h : field records i 4 ≤ state.done i). rw (le_ltb (state.done i) (field records i 4) h))
+          (λ (h : field records i 4 ≤ state.done i). rw (le-ltb (state.done i) (field records i 4) h))
           (lt_or_ge (state.done i) (field records i 4))
 
       module _ (r : Taken) (turned : Turned rows steps turn set r) where
@@ -120,10 +120,10 @@ module _ (flows : ℕ) (rows records steps : List ℕ) (state : State) where
           placed k =
               ⊎_elim
               (λ (q : eqb i k ≡ true).
-              let same : i ≡ k = eqb_true i k q in
-              rw (bit_or, bit_only i k, q, or_true (bit places k)) (sym (among_last (goers i) i) ∙ ap (λ (j : ℕ). among (goers i ++ (i ∷ [])) j) same))
+              let same : i ≡ k = eqb-true i k q in
+              rw (bit_or, bit_only i k, q, or-true (bit places k)) (sym (among_last (goers i) i) ∙ ap (λ (j : ℕ). among (goers i ++ (i ∷ [])) j) same))
               (λ (q : eqb i k ≡ false).
-              rw (bit_or, bit_only i k, q, or_false (bit places k)) (so.there k ∙ sym (among_more (goers i) i k (eqb_false i k q))))
+              rw (bit_or, bit_only i k, q, or-false (bit places k)) (so.there k ∙ sym (among_more (goers i) i k (eqb-false i k q))))
               (bool_cases (eqb i k))
 
           sends_next : (k : ℕ) → sent_at (lists.set sent i r.step) k ≡ cond (among (goers i ++ (i ∷ [])) k) (next_step facts none_due state k) no_step
@@ -131,12 +131,12 @@ module _ (flows : ℕ) (rows records steps : List ℕ) (state : State) where
           sends_next k =
               ⊎_elim
               (λ (q : eqb i k ≡ true).
-              let same : i ≡ k = eqb_true i k q in
+              let same : i ≡ k = eqb-true i k q in
               rw (← same, among_last (goers i) i)
-              (get_or_set_same sent i r.step no_step (omega (arith, so.size, formed.most)) ∙ turned.step (goes_as ∙ e) ∙ next))
+              (get_or-set_same sent i r.step no_step (omega (arith, so.size, formed.most)) ∙ turned.step (goes_as ∙ e) ∙ next))
               (λ (q : eqb i k ≡ false).
-              rw (among_more (goers i) i k (eqb_false i k q))
-              (get_or_set_other sent i k r.step no_step (λ z. eqb_false i k q (sym z)) ∙ so.sends k))
+              rw (among_more (goers i) i k (eqb-false i k q))
+              (get_or-set_other sent i k r.step no_step (λ z. eqb-false i k q (sym z)) ∙ so.sends k))
               (bool_cases (eqb i k))
 
           pub chosen_goes : Chosen (suc i) r.set (bit_or places (2 ^ i)) (lists.set sent i r.step)
@@ -145,9 +145,9 @@ module _ (flows : ℕ) (rows records steps : List ℕ) (state : State) where
               rw more
               (record {
                 holds =
-                    rw (map_append (next_step facts none_due state) (goers i) (i ∷ []), ← next)
+                    rw (map-append (next_step facts none_due state) (goers i) (i ∷ []), ← next)
                     ((turned.more (goes_as ∙ e)).holds (map (next_step facts none_due state) (goers i)) so.holds);
                 there = placed;
-                size = length_set sent i r.step ∙ so.size;
+                size = length-set sent i r.step ∙ so.size;
                 sends = sends_next;
               })

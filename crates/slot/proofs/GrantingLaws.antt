@@ -2,17 +2,17 @@
 -- each of these flows is one step on. Leans on Places, on the nodes' LowestLaws, and on the trade's Slot. Assumes nothing.
 use Prim.Native.Nat.{ℕ, zero, suc, ◌+◌, ◌-◌, ◌*◌, ◌≤◌, ◌<◌}
 use mathlib.Core.Path.{◌≡◌, refl, sym, ◌∙◌, ap}
-use mathlib.Core.Bool.{Bool, true, false, not, ◌&&◌, and_false}
+use mathlib.Core.Bool.{Bool, true, false, not, ◌&&◌, and-false}
 use mathlib.Core.Logic.{◌⊎◌, inl, inr, ⊎_elim}
-use mathlib.Core.List.{List, [], ◌∷◌, ◌++◌, append_nil}
-use native.Mathlib.Nat.{add_zero}
-use native.Mathlib.Numerals.{add_one}
+use mathlib.Core.List.{List, [], ◌∷◌, ◌++◌, append-nil}
+use native.Mathlib.Nat.{add-zero}
+use native.Mathlib.Numerals.{add-one}
 use native.Mathlib.Omega.{arith}
 use lib.Dec.{leb}
 use lib.Bits.{bit_and}
-use lib.ListN.{length, get_or, set, take, drop, length_set, length_append}
-use lib.Seq.{take_length}
-use borrow.Author.Tests.{le_leb, lt_leb, leb_true, eq_eqb, ne_eqb}
+use lib.ListN.{length, get_or, set, take, drop, length-set, length-append}
+use lib.Seq.{take-length}
+use borrow.Author.Tests.{le-leb, lt-leb, leb-true, eq-eqb, ne_eqb}
 use borrow.Rule.Slice.PartMut.{put_mid}
 use Rattle.trade.specs.Limits.{most_flows, grant_bytes}
 use Rattle.trade.specs.Bytes.{bit, two_bytes, four_bytes, over}
@@ -44,7 +44,7 @@ and_yes false = refl
 -- the grants of one flow more stand behind those of the others
 grants_last : (grant : ℕ → List ℕ) (is : List ℕ) (i : ℕ) → grants_of grant (is ++ (i ∷ [])) ≡ grants_of grant is ++ grant i
 unfolding grants_of
-grants_last grant is i = grants_append grant is (i ∷ []) ∙ ap (λ (l : List ℕ). grants_of grant is ++ l) (append_nil (grant i))
+grants_last grant is i = grants_append grant is (i ∷ []) ∙ ap (λ (l : List ℕ). grants_of grant is ++ l) (append-nil (grant i))
 
 -- no more flows go than are taken
 pub going_few : (waits : Rule) (work : ℕ → Bool) (k : ℕ) → length (going waits work k) ≤ k
@@ -52,7 +52,7 @@ unfolding going
 going_few waits work zero = omega arith
 going_few waits work (suc k) =
     ⊎_elim
-    (λ e. rw (going_goes waits work k e, length_append (going waits work k) (k ∷ [])) (omega (arith, going_few waits work k)))
+    (λ e. rw (going_goes waits work k e, length-append (going waits work k) (k ∷ [])) (omega (arith, going_few waits work k)))
     (λ e. rw (going_stays waits work k e) (omega (arith, going_few waits work k)))
     (bool_cases (work k && not (waits (going waits work k) k)))
 
@@ -63,7 +63,7 @@ pasted_over :
     → put_mid at (length d - at) d (over src (take (length d - at) (drop at d))) ≡ pasted_at at src d
 unfolding over
 pasted_over at src d h =
-    sym (ap (λ (s : List ℕ). put_mid at (length d - at) d (s ++ drop (length src) (take (length d - at) (drop at d)))) (take_length src))
+    sym (ap (λ (s : List ℕ). put_mid at (length d - at) d (s ++ drop (length src) (take (length d - at) (drop at d)))) (take-length src))
     ∙ pasted at src d h
 
 -- one place more: in the set, or not
@@ -106,7 +106,7 @@ places_chosen waits work set m chosen (suc k) h = step (places_chosen waits work
 
 -- places past which none is in the set are all there are
 pub places_past : (set k n : ℕ) → ((i : ℕ) → k ≤ i → bit set i ≡ false) → places_in set (k + n) ≡ places_in set k
-places_past set k zero none = ap (places_in set) (add_zero k)
+places_past set k zero none = ap (places_in set) (add-zero k)
 places_past set k (suc n) none =
     let e : k + suc n ≡ suc (k + n) = omega arith in
     ap (places_in set) e ∙ places_same set (k + n) (none (k + n) (omega arith)) ∙ places_past set k n none
@@ -120,7 +120,7 @@ places_fewer set k (suc m) h =
   where
     more : length (places_in set m) ≤ length (places_in set (suc m))
     more =
-        ⊎_elim (λ (e : bit set m ≡ true). rw (places_more set m e, length_append (places_in set m) (m ∷ [])) (omega arith))
+        ⊎_elim (λ (e : bit set m ≡ true). rw (places_more set m e, length-append (places_in set m) (m ∷ [])) (omega arith))
         (λ (e : bit set m ≡ false). rw (places_same set m e) (omega arith))
         (bool_cases (bit set m))
 
@@ -168,14 +168,14 @@ module _ (records : List ℕ) (firsts : List Slot) (run : Run) (choice : Choice)
       }
     where
       own : (j : ℕ) → j ≡ k → place_of places j ≡ place_of run.flows j + one (bit goes j)
-      own j q = rw (q, e, add_zero (place_of run.flows k)) (so.ahead k (omega arith))
+      own j q = rw (q, e, add-zero (place_of run.flows k)) (so.ahead k (omega arith))
 
   given_on :
       (k n : ℕ) (places : List Progress) (count : ℕ) (grants : List ℕ)
       → ((j : ℕ) → k ≤ j → j < k + n → bit goes j ≡ false)
       → Given k places count grants
       → Given (k + n) places count grants
-  given_on k zero places count grants none so = rw (add_zero k) so
+  given_on k zero places count grants none so = rw (add-zero k) so
   given_on k (suc n) places count grants none so =
       let e : k + suc n ≡ suc (k + n) = omega arith in
       rw e (given_past (k + n) places count grants (none (k + n) (omega arith) (omega arith)) (given_on k n places count grants (λ j l h. none j l (omega arith)) so))
@@ -185,25 +185,25 @@ module _ (records : List ℕ) (firsts : List Slot) (run : Run) (choice : Choice)
   Left k rest = (j : ℕ) → bit rest j ≡ (bit goes j && leb k j)
 
   pub left_all : Left 0 goes
-  left_all j = rw (le_leb 0 j (omega arith)) (sym (and_yes (bit goes j)))
+  left_all j = rw (le-leb 0 j (omega arith)) (sym (and_yes (bit goes j)))
 
   module _ (k rest p : ℕ) (left : Left k rest) (low : Lowest rest p) where
     here : (bit goes p ≡ true) × (leb k p ≡ true)
     here = and_true (bit goes p) (leb k p) (sym (left p) ∙ low.set)
 
     between : (j : ℕ) → k ≤ j → j < p → bit goes j ≡ false
-    between j l h = sym (and_yes (bit goes j)) ∙ rw (← le_leb k j l) (sym (left j) ∙ low.below j h)
+    between j l h = sym (and_yes (bit goes j)) ∙ rw (← le-leb k j l) (sym (left j) ∙ low.below j h)
 
     pub left_next : Left (suc p) (bit_and rest (rest - 1))
     left_next j =
         low.cleared j
         ∙ ⊎_elim
         (λ (h : p < j).
-        rw (left j, le_leb (suc p) j (omega arith), le_leb k j (omega (arith, leb_true k p here.1)), ne_eqb p j (λ e. omega arith)) (and_yes (bit goes j && true)))
+        rw (left j, le-leb (suc p) j (omega arith), le-leb k j (omega (arith, leb-true k p here.1)), ne_eqb p j (λ e. omega arith)) (and_yes (bit goes j && true)))
         (λ (h : j ≤ p).
-        rw (lt_leb (suc p) j (omega arith))
-        (⊎_elim (λ (l : j < p). rw (low.below j l) (sym (and_false (bit goes j))))
-        (λ (l : p ≤ j). let e : p ≡ j = omega arith in rw (eq_eqb p j e) (and_false (bit rest j) ∙ sym (and_false (bit goes j)))) (lt_or_ge j p)))
+        rw (lt-leb (suc p) j (omega arith))
+        (⊎_elim (λ (l : j < p). rw (low.below j l) (sym (and-false (bit goes j))))
+        (λ (l : p ≤ j). let e : p ≡ j = omega arith in rw (eq-eqb p j e) (and-false (bit rest j) ∙ sym (and-false (bit goes j)))) (lt_or_ge j p)))
         (lt_or_ge p j)
 
     module _ (asked : Granting records run choice (length lent)) (few : p < most_flows) (places : List Progress) (count : ℕ) (grants : List ℕ) (so : Given k places count grants) where
@@ -211,7 +211,7 @@ module _ (records : List ℕ) (firsts : List Slot) (run : Run) (choice : Choice)
       reached : Given p places count grants
       reached =
           let n : ℕ = p - k in
-          let e : k + n ≡ p = omega (arith, leb_true k p here.1) in
+          let e : k + n ≡ p = omega (arith, leb-true k p here.1) in
           rw e at (given_on k (p - k) places count grants (λ j l h. between j l (omega arith)) so)
 
       pub flow_goes : bit goes p ≡ true
@@ -224,7 +224,7 @@ module _ (records : List ℕ) (firsts : List Slot) (run : Run) (choice : Choice)
       all_lent = omega (arith, places_fewer goes (suc p) most_flows (omega arith), asked.grants)
 
       one_more : length (places_in goes (suc p)) ≡ count + 1
-      one_more = ap length (places_more goes p flow_goes) ∙ length_append (places_in goes p) (p ∷ []) ∙ ap (λ (n : ℕ). n + 1) (sym reached.given.number)
+      one_more = ap length (places_more goes p flow_goes) ∙ length-append (places_in goes p) (p ∷ []) ∙ ap (λ (n : ℕ). n + 1) (sym reached.given.number)
 
       pub same_room : length grants ≡ length lent
       same_room =
@@ -263,7 +263,7 @@ module _ (records : List ℕ) (firsts : List Slot) (run : Run) (choice : Choice)
               given =
                   rw (places_more goes p flow_goes)
                   (record {
-                    number = ap (λ (n : ℕ). n + 1) reached.given.number ∙ sym (length_append (places_in goes p) (p ∷ []));
+                    number = ap (λ (n : ℕ). n + 1) reached.given.number ∙ sym (length-append (places_in goes p) (p ∷ []));
                     wrote =
                         wrote
                         ∙ (λ t. pasted_at (grant_bytes * reached.given.number t) (grant p) (reached.given.wrote t))
@@ -271,7 +271,7 @@ module _ (records : List ℕ) (firsts : List Slot) (run : Run) (choice : Choice)
                         ∙ pasted_next (grants_of grant (places_in goes p)) (grant p) lent
                         ∙ ap (λ (l : List ℕ). over l lent) (sym (grants_last grant (places_in goes p) p));
                   });
-              size = length_set places p (record { done = record { 0 = place_of places p + 1 } }) ∙ so.size;
+              size = length-set places p (record { done = record { 0 = place_of places p + 1 } }) ∙ so.size;
               passed =
                   λ j h.
                   ⊎_elim (λ (l : j < p). unstored places p j _ (λ q. omega arith) ∙ reached.passed j l) (λ (l : p ≤ j). own j (omega arith)) (lt_or_ge j p);
@@ -287,7 +287,7 @@ module _ (records : List ℕ) (firsts : List Slot) (run : Run) (choice : Choice)
   -- once none is left, the slot has run
   module _ (k rest : ℕ) (left : Left k rest) (none : rest ≡ 0) (few : k ≤ most_flows) (asked : Granting records run choice (length lent)) (places : List Progress) (count : ℕ) (grants : List ℕ) (so : Given k places count grants) where
     nothing : (j : ℕ) → k ≤ j → bit goes j ≡ false
-    nothing j l = sym (and_yes (bit goes j)) ∙ rw (← le_leb k j l) (sym (left j) ∙ ap (λ (n : ℕ). bit n j) none ∙ bit_none j)
+    nothing j l = sym (and_yes (bit goes j)) ∙ rw (← le-leb k j l) (sym (left j) ∙ ap (λ (n : ℕ). bit n j) none ∙ bit_none j)
 
     all : Given most_flows places count grants
     all = let e : k + (most_flows - k) ≡ most_flows = omega arith in rw e at (given_on k (most_flows - k) places count grants (λ j l h. nothing j l) so)
@@ -301,12 +301,12 @@ module _ (records : List ℕ) (firsts : List Slot) (run : Run) (choice : Choice)
     unfolding one
     given_all =
         record {
-          slot = add_one run.slot.0;
+          slot = add-one run.slot.0;
           size = so.size;
           places =
               λ j.
               ⊎_elim (λ (h : j < most_flows). all.passed j h)
-              (λ (h : most_flows ≤ j). rw (nothing j (omega arith), add_zero (place_of run.flows j)) (all.ahead j h)) (lt_or_ge j most_flows);
+              (λ (h : most_flows ≤ j). rw (nothing j (omega arith), add-zero (place_of run.flows j)) (all.ahead j h)) (lt_or_ge j most_flows);
           count = all.given.number;
           grants = all.given.wrote;
         }

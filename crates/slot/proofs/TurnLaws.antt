@@ -3,7 +3,7 @@ use Prim.Native.Nat.{ℕ, ◌≤◌, ◌<◌}
 use mathlib.Core.Path.{◌≡◌, refl, sym}
 use mathlib.Core.Bool.{true, false}
 use mathlib.Core.List.{List}
-use borrow.Author.Tests.{lt_ltb, le_ltb}
+use borrow.Author.Tests.{lt-ltb, le-ltb}
 use Rattle.trade.proofs.First.{not_both}
 use Rattle.nodes.specs.Grants.{clashes_with, Grown}
 use Rattle.nodes.specs.declared.grants.GrantSet.{GrantSet}
@@ -19,13 +19,13 @@ module _ (rows steps : List ℕ) (turn : Turn) (set : GrantSet) where
   -- a flow that has finished waits,
   pub turned_finished : turn.len ≤ turn.done.0 → Turned rows steps turn set (record { set = set; goes = false; step = no_step })
   unfolding goes_now
-  turned_finished h = turned_waits (rw (le_ltb turn.done.0 turn.len h))
+  turned_finished h = turned_waits (rw (le-ltb turn.done.0 turn.len h))
 
   -- and one whose next step clashes
   pub turned_clashes :
       turn.done.0 < turn.len → clashes_with rows set (next_of steps turn) ≡ true → Turned rows steps turn set (record { set = set; goes = false; step = no_step })
   unfolding goes_now
-  turned_clashes h e = turned_waits (rw (lt_ltb turn.done.0 turn.len h, e))
+  turned_clashes h e = turned_waits (rw (lt-ltb turn.done.0 turn.len h, e))
 
   -- any other goes
   pub turned_goes :
@@ -41,4 +41,4 @@ module _ (rows steps : List ℕ) (turn : Turn) (set : GrantSet) where
       record { goes = rw (goes, went); waits = λ w. absurd (not_both goes w); more = λ g. grown; step = λ g. step }
     where
       goes : goes_now rows steps turn set ≡ true
-      goes = rw (lt_ltb turn.done.0 turn.len h, e)
+      goes = rw (lt-ltb turn.done.0 turn.len h, e)

@@ -4,7 +4,7 @@ use mathlib.Core.Path.{◌≡◌, ◌∙◌, ap}
 use mathlib.Core.List.{List, [], ◌∷◌, ◌++◌}
 use native.Mathlib.Omega.{arith}
 use lib.ListN.{length}
-use lib.Seq.{sets, sets_eq}
+use lib.Seq.{sets, sets-eq}
 use Rattle.trade.specs.Limits.{grant_bytes}
 use Rattle.trade.specs.Bytes.{two_bytes, four_bytes, over}
 use Rattle.trade.specs.declared.state.Grant.{Grant}
@@ -30,6 +30,6 @@ module _ (g : Grant) (d d₁ d₂ : List ℕ) (room : grant_bytes ≤ length d)
   unfolding bytes_of two_bytes four_bytes pasted_at
   grant_written =
       let rest : List ℕ = g.step.0 ∷ g.transmission.sender.0 ∷ g.transmission.receiver.0 ∷ [] in
-      sets_eq rest d₂ 6 (omega (arith, numbered_length))
+      sets-eq rest d₂ 6 (omega (arith, numbered_length))
       ∙ ap (pasted_at 6 rest) fronted
       ∙ pasted_next (two_bytes g.id ++ four_bytes g.instance.0) rest d

@@ -6,7 +6,7 @@ use mathlib.Core.Bool.{Bool, true, false, cond}
 use mathlib.Core.Logic.{⊎_elim}
 use mathlib.Core.List.{List}
 use native.Mathlib.Omega.{arith}
-use borrow.Author.Tests.{eqb_true, eqb_false, ne_eqb, lt_ltb, le_ltb}
+use borrow.Author.Tests.{eqb-true, eqb-false, ne_eqb, lt-ltb, le-ltb}
 use lib.Dec.{eqb}
 use store.Seg.{eqb_same}
 use lib.ListN.{get_or, set}
@@ -27,11 +27,11 @@ use Rattle.square.proofs.KeptLaws.{shifted_below, shifted_past, line_used, line_
 -- A FLOW COMES IN: where another stood before
 in_below : (place i : ℕ) → i < place → before_in place i ≡ i
 unfolding before_in
-in_below place i l = rw (lt_ltb i place l) refl
+in_below place i l = rw (lt-ltb i place l) refl
 
 in_past : (place i : ℕ) → place ≤ i → before_in place i ≡ i - 1
 unfolding before_in
-in_past place i l = rw (le_ltb i place l) refl
+in_past place i l = rw (le-ltb i place l) refl
 
 shifted_in : (place h : ℕ) → (h ≡ place → ⊥) → shifted (place + 1) 0 1 h ≡ before_in place h
 shifted_in place h d =
@@ -64,13 +64,13 @@ module _ (place : ℕ) (pairs old : List ℕ) where
       → ((l ≡ place → ⊥) → (h ≡ place → ⊥) → P (figure_in old (before_in place l) (before_in place h)))
       → P (figure_with place pairs old l h)
   with_cases P l h its of_it others =
-      ⊎_elim (λ (e : eqb l place ≡ true). subst P (sym (ap (λ (i : ℕ). figure_with place pairs old i h) (eqb_true l place e) ∙ with_it h)) (its (eqb_true l place e)))
+      ⊎_elim (λ (e : eqb l place ≡ true). subst P (sym (ap (λ (i : ℕ). figure_with place pairs old i h) (eqb-true l place e) ∙ with_it h)) (its (eqb-true l place e)))
       (λ (d : eqb l place ≡ false).
       ⊎_elim
       (λ (e : eqb h place ≡ true).
-      subst P (sym (ap (figure_with place pairs old l) (eqb_true h place e) ∙ with_its l (eqb_false l place d))) (of_it (eqb_true h place e)))
+      subst P (sym (ap (figure_with place pairs old l) (eqb-true h place e) ∙ with_its l (eqb-false l place d))) (of_it (eqb-true h place e)))
       (λ (e : eqb h place ≡ false).
-      subst P (sym (with_others l h (eqb_false l place d) (eqb_false h place e))) (others (eqb_false l place d) (eqb_false h place e)))
+      subst P (sym (with_others l h (eqb-false l place d) (eqb-false h place e))) (others (eqb-false l place d) (eqb-false h place e)))
       (bool_cases (eqb h place)))
       (bool_cases (eqb l place))
 
@@ -134,15 +134,15 @@ with_in F flows place pairs old put figures l s m t = line_same flows l _ _ m (�
 module _ (flows : ℕ) (f : Facts) (place : ℕ) (most : flows ≤ most_flows) (there : place < flows) where
   pair_above : (i : ℕ) → i < place → pair_in f place i ≡ interference f place i
   unfolding pair_in
-  pair_above i l = rw (lt_ltb i place l) refl
+  pair_above i l = rw (lt-ltb i place l) refl
 
   pub pair_below : (i : ℕ) → place < i → pair_in f place i ≡ interference f i place
   unfolding pair_in
-  pair_below i l = rw (le_ltb i place (omega arith), ne_eqb i place (λ e. omega arith)) refl
+  pair_below i l = rw (le-ltb i place (omega arith), ne_eqb i place (λ e. omega arith)) refl
 
   pair_own : pair_in f place place ≡ 0
   unfolding pair_in
-  pair_own = rw (le_ltb place place (omega arith), eqb_same place) refl
+  pair_own = rw (le-ltb place place (omega arith), eqb_same place) refl
 
   -- those of the flows above it are its line
   pub pairs_begun : filled most_flows (interference f place) place ≡ filled most_flows (pair_in f place) (place + 1)
@@ -194,15 +194,15 @@ module _
         (λ e. rw e (pairs_above flows f place most o.within h (omega arith)))
         (λ e. rw e (pairs_below flows f place most o.within l (omega arith) p)) (λ d e. o.figures l h p q d e)
 
-    pub with_figures_law : with_figures flows place (pairs_of flows (facts_in 0 0 rows records steps) place) old ≡ figures_of (facts_in 0 flows rows records steps)
+    pub with_figures_lem : with_figures flows place (pairs_of flows (facts_in 0 0 rows records steps) place) old ≡ figures_of (facts_in 0 flows rows records steps)
     unfolding with_figures
-    with_figures_law =
+    with_figures_lem =
         square_same _ (used flows (interference (facts_in 0 0 rows records steps)))
         (λ l h p q.
         ⊎_elim
         (λ (u : l < flows).
-        ⊎_elim (λ (v : h < l). rw (lt_ltb l flows u, lt_ltb h l v) (with_right l h u v)) (λ (v : l ≤ h). rw (lt_ltb l flows u, le_ltb h l v) refl) (lt_or_ge h l))
-        (λ (u : flows ≤ l). rw (le_ltb l flows u) refl)
+        ⊎_elim (λ (v : h < l). rw (lt-ltb l flows u, lt-ltb h l v) (with_right l h u v)) (λ (v : l ≤ h). rw (lt-ltb l flows u, le-ltb h l v) refl) (lt_or_ge h l))
+        (λ (u : flows ≤ l). rw (le-ltb l flows u) refl)
         (lt_or_ge l flows))
         ∙ figures_square flows rows records steps
 

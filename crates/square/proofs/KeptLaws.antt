@@ -6,10 +6,10 @@ use mathlib.Core.Bool.{Bool, true, false, not, cond, ◌&&◌}
 use mathlib.Core.Logic.{⊎_elim}
 use mathlib.Core.List.{List}
 use native.Mathlib.Omega.{arith}
-use borrow.Author.Tests.{eqb_true, eqb_false, lt_ltb, le_ltb}
+use borrow.Author.Tests.{eqb-true, eqb-false, lt-ltb, le-ltb}
 use lib.Dec.{eqb, ltb}
-use lib.ListN.{length, get_or, set, length_set}
-use lib.Seq.{ext_get_or, get_or_set_same, get_or_set_other}
+use lib.ListN.{length, get_or, set, length-set}
+use lib.Seq.{ext_get_or, get_or-set_same, get_or-set_other}
 use Rattle.trade.specs.Limits.{most_flows}
 use Rattle.trade.specs.First.{some}
 use Rattle.trade.specs.Layout.{sections}
@@ -26,11 +26,11 @@ use Rattle.figures.proofs.Padded.{filled, filled_at, filled_behind, filled_same}
 -- WHERE a figure is read: below the cut at its place, any other ahead and back
 pub shifted_below : (cut ahead back h : ℕ) → h < cut → shifted cut ahead back h ≡ h
 unfolding shifted
-shifted_below cut ahead back h l = rw (lt_ltb h cut l) refl
+shifted_below cut ahead back h l = rw (lt-ltb h cut l) refl
 
 pub shifted_past : (cut ahead back h : ℕ) → cut ≤ h → shifted cut ahead back h ≡ h + ahead - back
 unfolding shifted
-shifted_past cut ahead back h l = rw (le_ltb h cut l) refl
+shifted_past cut ahead back h l = rw (le-ltb h cut l) refl
 
 pub shifted_most : (cut ahead back h : ℕ) → shifted cut ahead back h ≤ h + ahead
 shifted_most cut ahead back h =
@@ -55,17 +55,17 @@ module _ (l : ℕ) (line before : List ℕ) where
       → PutTo l (n + 1) line before (set after (most_flows * l + n) (get_or line n 0))
   put_more n after fits s =
       record {
-        size = length_set after (most_flows * l + n) (get_or line n 0) ∙ s.size;
+        size = length-set after (most_flows * l + n) (get_or line n 0) ∙ s.size;
         here = λ h p. ⊎_elim (λ (q : h < n). other (most_flows * l + h) (λ e. omega arith) ∙ s.here h q) (λ (q : n ≤ h). new h (omega arith)) (lt_or_ge h n);
         below = λ k p. other k (λ e. omega arith) ∙ s.below k p;
         past = λ k p. other k (λ e. omega arith) ∙ s.past k (omega arith);
       }
     where
       other : (k : ℕ) → (k ≡ most_flows * l + n → ⊥) → get_or (set after (most_flows * l + n) (get_or line n 0)) k 0 ≡ get_or after k 0
-      other k d = get_or_set_other after (most_flows * l + n) k (get_or line n 0) 0 d
+      other k d = get_or-set_other after (most_flows * l + n) k (get_or line n 0) 0 d
 
       new : (h : ℕ) → h ≡ n → get_or (set after (most_flows * l + n) (get_or line n 0)) (most_flows * l + h) 0 ≡ get_or line h 0
-      new h e = rw e (get_or_set_same after (most_flows * l + n) (get_or line n 0) 0 fits)
+      new h e = rw e (get_or-set_same after (most_flows * l + n) (get_or line n 0) 0 fits)
 
   pub put_all : (after : List ℕ) → PutTo l most_flows line before after → LinePut l line before after
   put_all after s = record { size = s.size; here = s.here; below = s.below; past = s.past }
@@ -90,26 +90,26 @@ line_by flows l figure = filled most_flows figure (cond (ltb l flows) l 0)
 
 module _ (flows l : ℕ) (figure : ℕ → ℕ) where
   pub line_used : l < flows → line_by flows l figure ≡ filled most_flows figure l
-  line_used p = rw (lt_ltb l flows p) refl
+  line_used p = rw (lt-ltb l flows p) refl
 
   pub line_unused : flows ≤ l → line_by flows l figure ≡ filled most_flows figure 0
-  line_unused p = rw (le_ltb l flows p) refl
+  line_unused p = rw (le-ltb l flows p) refl
 
   pub line_figure : (h : ℕ) → get_or (line_by flows l figure) h 0 ≡ cond (ltb l flows && ltb h l) (figure h) 0
   line_figure h =
       ⊎_elim
       (λ (p : l < flows).
-      ⊎_elim (λ (q : h < l). rw (lt_ltb l flows p, lt_ltb h l q) (filled_at most_flows figure l h q))
-      (λ (q : l ≤ h). rw (lt_ltb l flows p, le_ltb h l q) (filled_behind most_flows figure l h q)) (lt_or_ge h l))
-      (λ (p : flows ≤ l). rw (le_ltb l flows p) (filled_behind most_flows figure 0 h (omega arith))) (lt_or_ge l flows)
+      ⊎_elim (λ (q : h < l). rw (lt-ltb l flows p, lt-ltb h l q) (filled_at most_flows figure l h q))
+      (λ (q : l ≤ h). rw (lt-ltb l flows p, le-ltb h l q) (filled_behind most_flows figure l h q)) (lt_or_ge h l))
+      (λ (p : flows ≤ l). rw (le-ltb l flows p) (filled_behind most_flows figure 0 h (omega arith))) (lt_or_ge l flows)
 
   pub line_bytes : (l < flows → (h : ℕ) → h < l → figure h < 256) → (h : ℕ) → get_or (line_by flows l figure) h 0 < 256
   line_bytes small h =
       ⊎_elim
       (λ (p : l < flows).
-      ⊎_elim (λ (q : h < l). rw (line_figure h, lt_ltb l flows p, lt_ltb h l q) (small p h q))
-      (λ (q : l ≤ h). rw (line_figure h, lt_ltb l flows p, le_ltb h l q) (omega arith)) (lt_or_ge h l))
-      (λ (p : flows ≤ l). rw (line_figure h, le_ltb l flows p) (omega arith)) (lt_or_ge l flows)
+      ⊎_elim (λ (q : h < l). rw (line_figure h, lt-ltb l flows p, lt-ltb h l q) (small p h q))
+      (λ (q : l ≤ h). rw (line_figure h, lt-ltb l flows p, le-ltb h l q) (omega arith)) (lt_or_ge h l))
+      (λ (p : flows ≤ l). rw (line_figure h, le-ltb l flows p) (omega arith)) (lt_or_ge l flows)
 
 pub line_same :
     (flows l : ℕ) (figure other : ℕ → ℕ)
@@ -151,8 +151,8 @@ lines_more flows figure old put more l line before after is p new others s =
       size = p.size ∙ s.size;
       held =
           λ k b t.
-          ⊎_elim (λ (e : eqb (k / most_flows) l ≡ true). here k (eqb_true _ _ e))
-          (λ (e : eqb (k / most_flows) l ≡ false). same k (eqb_false _ _ e) ∙ s.held k b (sym (others _ (eqb_false _ _ e)) ∙ t))
+          ⊎_elim (λ (e : eqb (k / most_flows) l ≡ true). here k (eqb-true _ _ e))
+          (λ (e : eqb (k / most_flows) l ≡ false). same k (eqb-false _ _ e) ∙ s.held k b (sym (others _ (eqb-false _ _ e)) ∙ t))
           (bool_cases (eqb (k / most_flows) l));
       left = λ k b t. let d = other k t in same k d ∙ s.left k b (sym (others _ d) ∙ t);
     }
@@ -189,7 +189,7 @@ line_left F old put figures l h s p q t =
 -- the lines above l and one more
 pub one_more : (l j : ℕ) → (j ≡ l → ⊥) → ltb j (l + 1) ≡ ltb j l
 one_more l j d =
-    ⊎_elim (λ (p : j < l). lt_ltb j (l + 1) (omega arith) ∙ sym (lt_ltb j l p)) (λ (p : l ≤ j). le_ltb j (l + 1) (omega (arith, d)) ∙ sym (le_ltb j l p))
+    ⊎_elim (λ (p : j < l). lt-ltb j (l + 1) (omega arith) ∙ sym (lt-ltb j l p)) (λ (p : l ≤ j). le-ltb j (l + 1) (omega (arith, d)) ∙ sym (le-ltb j l p))
     (lt_or_ge j l)
 
 -- THE FIGURES of a book: the square of its used lines, each a byte
@@ -208,10 +208,10 @@ figures_bytes flows rows records steps f l h =
     line_bytes flows l _ (λ p k q. omega (arith, interference_most records rows steps l k, (f.fields k (omega arith)).len.1)) h
 
 -- a line of figures is wrong where it is not the one that is worked out
-pub wrong_line_law :
+pub wrong_line_lem :
     (flows : ℕ) (rows records steps figures : List ℕ) (l : ℕ)
     → some (λ h. not (eqb (figure_in figures l h) (get_or (filled most_flows (interference (facts_in 0 0 rows records steps) l) l) h 0))) l
     ≡ wrong_line (record { sections = sections 0 flows rows records steps; figures = figures }) l
 unfolding wrong_line facts_of interference matrix step_of first_step
-wrong_line_law flows rows records steps figures l =
+wrong_line_lem flows rows records steps figures l =
     some_cong _ _ l (λ h p. ap (λ (v : ℕ). not (eqb (figure_in figures l h) v)) (filled_at most_flows (interference (facts_in 0 0 rows records steps) l) l h p))

@@ -5,8 +5,8 @@ use mathlib.Core.Bool.{cond}
 use mathlib.Core.List.{List, [], ◌∷◌, ◌++◌}
 use native.Mathlib.Omega.{arith}
 use lib.Dec.{ltb}
-use lib.ListN.{length, take, length_append}
-use borrow.Author.Tests.{eq_eqb, ne_eqb, lt_ltb}
+use lib.ListN.{length, take, length-append}
+use borrow.Author.Tests.{eq-eqb, ne_eqb, lt-ltb}
 use Rattle.trade.specs.Limits.{most_nodes, most_flows, most_steps, row_bytes, record_bytes, step_bytes, trailer_bytes}
 use Rattle.trade.specs.Bytes.{over}
 use Rattle.trade.specs.Layout.{Sections}
@@ -21,7 +21,7 @@ use Rattle.trade.proofs.Valid.{plans_most, table_valid}
 use Rattle.trade.proofs.Used.{Holds, length_book}
 use Rattle.trade.proofs.Calls.{written}
 use Rattle.table.specs.Written.{Room, Writes, trailer_with}
-use lib.Seq.{length_take_le}
+use lib.Seq.{length-take-le}
 use Rattle.numbers.specs.Pasting.{pasted_at}
 use Rattle.numbers.proofs.PastingLaws.{pasted_first, pasted_behind}
 
@@ -71,11 +71,11 @@ module _ (t : Sections) (d : List ℕ) where
   pub write_short : (first_of table_rules no_number t).code ≡ 0 → length d < length (book_of t) → Writes t d (refused 13 0) d
   unfolding is_done code13
   write_short e h =
-      let short = given_true 13 _ 0 (lt_ltb (length d) (length (book_of t)) h) in
+      let short = given_true 13 _ 0 (lt-ltb (length d) (length (book_of t)) h) in
       let nonzero : (given 13 (ltb (length d) (length (book_of t))) 0).code ≡ 0 → ⊥ =
       λ z. let o : ◌≡◌ {A = ℕ} 13 0 = sym (ap (λ (r : Answer). r.code) short) ∙ z in omega arith in
       answered (refused 13 0)
-      (by_rules ∙ rw (eq_eqb (first_of table_rules no_number t).code 0 e) (first_of_refuse {A = Writing} _ _ _ (record { table = t; buffer = d }) nonzero ∙ short))
+      (by_rules ∙ rw (eq-eqb (first_of table_rules no_number t).code 0 e) (first_of_refuse {A = Writing} _ _ _ (record { table = t; buffer = d }) nonzero ∙ short))
       (λ (z : ◌≡◌ {A = ℕ} 13 0). omega arith)
 
   -- done
@@ -121,12 +121,12 @@ module _ (s : Sections) (all room : ℕ) (r : Room s all room) where
       let records : List ℕ = records_part s in
       let steps : List ℕ = steps_part s all in
       let tail : List ℕ = tail_part s all in
-      let n₁ = length_take_le (row_bytes * s.nodes) s.rows r.rows in
-      let n₂ = length_take_le (record_bytes * s.flows) s.records r.records in
-      let n₃ = length_take_le (step_bytes * all) s.steps r.steps in
-      let l₂ : length (rows ++ records) ≡ row_bytes * s.nodes + record_bytes * s.flows = length_append rows records ∙ ap₂ (λ (a b : ℕ). a + b) n₁ n₂ in
+      let n₁ = length-take-le (row_bytes * s.nodes) s.rows r.rows in
+      let n₂ = length-take-le (record_bytes * s.flows) s.records r.records in
+      let n₃ = length-take-le (step_bytes * all) s.steps r.steps in
+      let l₂ : length (rows ++ records) ≡ row_bytes * s.nodes + record_bytes * s.flows = length-append rows records ∙ ap₂ (λ (a b : ℕ). a + b) n₁ n₂ in
       let l₃ : length (rows ++ records ++ steps) ≡ row_bytes * s.nodes + record_bytes * s.flows + step_bytes * all =
-      length_append (rows ++ records) steps ∙ ap₂ (λ (a b : ℕ). a + b) l₂ n₃ in
+      length-append (rows ++ records) steps ∙ ap₂ (λ (a b : ℕ). a + b) l₂ n₃ in
       let p₁ : d₁ ≡ over rows d = e₁ ∙ pasted_first rows d in
       let p₂ : d₂ ≡ over (rows ++ records) d = e₂ ∙ pasted_behind (row_bytes * s.nodes) rows records d d₁ n₁ p₁ in
       let p₃ : d₃ ≡ over (rows ++ records ++ steps) d = e₃ ∙ pasted_behind _ (rows ++ records) steps d d₂ l₂ p₂ in

@@ -3,10 +3,10 @@
 use Prim.Native.Nat.{ℕ, suc, ◌<◌}
 use mathlib.Core.Path.{◌≡◌, refl, ap, sym, ◌∙◌}
 use mathlib.Core.Bool.{Bool, true, false, cond}
-use mathlib.Core.List.{List, [], ◌∷◌, ◌++◌, append_nil}
+use mathlib.Core.List.{List, [], ◌∷◌, ◌++◌, append-nil}
 use mathlib.Core.Logic.{◌⊎◌, inl, inr, ⊎_elim}
 use lib.Dec.{eqb}
-use borrow.Author.Tests.{eqb_true, eqb_false, eq_eqb, ne_eqb}
+use borrow.Author.Tests.{eqb-true, eqb-false, eq-eqb, ne_eqb}
 use native.Mathlib.Omega.{arith}
 use Rattle.trade.proofs.First.{bool_cases, some_intro, some_none, some_false, some_cong, first_unique, first_cong}
 use Rattle.trade.specs.First.{first, some}
@@ -16,7 +16,7 @@ use Rattle.trade.specs.declared.answer.Answer.{Answer}
 -- of what a call returns done and what it returns refused, one that is done returns the first, and a refused one the second
 pub done_first : {A : Type 0} (a : Answer) (x y : A) → a.code ≡ 0 → cond (is_done a) x y ≡ x
 unfolding is_done
-done_first a x y e = rw (eq_eqb a.code 0 e)
+done_first a x y e = rw (eq-eqb a.code 0 e)
 
 pub refused_second : {A : Type 0} (a : Answer) (x y : A) → (a.code ≡ 0 → ⊥) → cond (is_done a) x y ≡ y
 unfolding is_done
@@ -98,16 +98,16 @@ first_of_passed (rule ∷ rules) number x e = step (λ q. first_of_passed rules 
         → Passed x (rule ∷ rules)
     step rest (inl d) =
         let others : first_of (rule ∷ rules) number x ≡ first_of rules number x = first_of_rule rule rules number x ∙ rw d refl in
-        passed_more (eqb_true (rule x).code 0 d) (rest (sym (ap (λ (a : Answer). a.code) others) ∙ e))
+        passed_more (eqb-true (rule x).code 0 d) (rest (sym (ap (λ (a : Answer). a.code) others) ∙ e))
     step rest (inr d) =
         let this : first_of (rule ∷ rules) number x ≡ rule x = first_of_rule rule rules number x ∙ rw d refl in
-        absurd (eqb_false (rule x).code 0 d (sym (ap (λ (a : Answer). a.code) this) ∙ e))
+        absurd (eqb-false (rule x).code 0 d (sym (ap (λ (a : Answer). a.code) this) ∙ e))
 
 pub passed_done : {A : Type 0} {x : A} {rules : List (A → Answer)} (number : A → ℕ) → Passed x rules → first_of rules number x ≡ done (number x)
 unfolding first_of is_done
 passed_done number passed_none = refl
 passed_done {x = x} number (passed_more {rule = rule} {rules = rules} e p) =
-    first_of_rule rule rules number x ∙ rw (eq_eqb (rule x).code 0 e) (passed_done number p)
+    first_of_rule rule rules number x ∙ rw (eq-eqb (rule x).code 0 e) (passed_done number p)
 
 -- so a call that is done has its number
 pub first_of_done : {A : Type 0} (rules : List (A → Answer)) (number : A → ℕ) (x : A) → (first_of rules number x).code ≡ 0 → first_of rules number x ≡ done (number x)
@@ -122,7 +122,7 @@ pub passed_refused :
 unfolding is_done
 passed_refused {x = x} rule more number passed_none n = first_of_rule rule more number x ∙ rw (ne_eqb (rule x).code 0 n)
 passed_refused {x = x} rule more number (passed_more {rule = first} {rules = rules} e p) n =
-    first_of_rule first (rules ++ (rule ∷ more)) number x ∙ rw (eq_eqb (first x).code 0 e) (passed_refused rule more number p n)
+    first_of_rule first (rules ++ (rule ∷ more)) number x ∙ rw (eq-eqb (first x).code 0 e) (passed_refused rule more number p n)
 
 -- what a rule that passed says: its condition does not hold, or no place is bad
 pub given_passed : (code : ℕ) (test : Bool) (number : ℕ) → (given (suc code) test number).code ≡ 0 → test ≡ false
@@ -165,7 +165,7 @@ first_of_refuse rule rules number x n = first_of_rule rule rules number x ∙ rw
 
 pub first_of_pass : {A : Type 0} (rule : A → Answer) (rules : List (A → Answer)) (number : A → ℕ) (x : A) → (rule x).code ≡ 0 → first_of (rule ∷ rules) number x ≡ first_of rules number x
 unfolding is_done
-first_of_pass rule rules number x e = first_of_rule rule rules number x ∙ rw (eq_eqb (rule x).code 0 e)
+first_of_pass rule rules number x e = first_of_rule rule rules number x ∙ rw (eq-eqb (rule x).code 0 e)
 
 -- a rule that passes has no number, so the last rule's answer is the call's
 pub given_passes : (code : ℕ) (test : Bool) (number : ℕ) → (given (suc code) test number).code ≡ 0 → given (suc code) test number ≡ done 0
@@ -177,7 +177,7 @@ pub first_of_last : {A : Type 0} (rule : A → Answer) (x : A) → ((rule x).cod
 unfolding first_of is_done
 first_of_last rule x plain =
     ⊎_elim
-    (λ (e : eqb (rule x).code 0 ≡ true). first_of_rule rule [] no_number x ∙ rw e (sym (plain (eqb_true (rule x).code 0 e))))
+    (λ (e : eqb (rule x).code 0 ≡ true). first_of_rule rule [] no_number x ∙ rw e (sym (plain (eqb-true (rule x).code 0 e))))
     (λ (e : eqb (rule x).code 0 ≡ false). first_of_rule rule [] no_number x ∙ rw e)
     (bool_cases (eqb (rule x).code 0))
 
@@ -211,7 +211,7 @@ pub first_of_number :
     {A : Type 0} (rules : List (A → Answer)) (number : A → ℕ) (x : A)
     → first_of rules number x ≡ cond (is_done (first_of rules no_number x)) (done (number x)) (first_of rules no_number x)
 unfolding first_of
-first_of_number rules number x = ap (λ (all : List (_ → Answer)). first_of all number x) (sym (append_nil rules)) ∙ first_of_append rules [] number x
+first_of_number rules number x = ap (λ (all : List (_ → Answer)). first_of all number x) (sym (append-nil rules)) ∙ first_of_append rules [] number x
 
 -- a rule that passes may be left out
 pub first_of_without :

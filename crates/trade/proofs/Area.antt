@@ -7,8 +7,8 @@ use mathlib.Core.Logic.{⊎_elim}
 use mathlib.Core.List.{List, ◌++◌, append_assoc}
 use native.Mathlib.Omega.{arith}
 use lib.Dec.{ltb}
-use lib.ListN.{length, drop, length_append, get_or_append}
-use borrow.Author.Tests.{ltb_true, lt_ltb, le_ltb}
+use lib.ListN.{length, drop, length-append, get_or-append}
+use borrow.Author.Tests.{ltb-true, lt-ltb, le-ltb}
 use Rattle.trade.specs.Limits.{most_flows, slot_bytes, area_bytes}
 use Rattle.trade.specs.First.{list_to}
 use Rattle.trade.specs.Bytes.{four_bytes, over}
@@ -28,7 +28,7 @@ unfolding area_of
 length_area flows s =
     omega (
       arith,
-      length_append (four_bytes s.slot) (list_to (place_byte flows s) most_flows),
+      length-append (four_bytes s.slot) (list_to (place_byte flows s) most_flows),
       length_four_bytes s.slot,
       length_list_to (place_byte flows s) most_flows,
     )
@@ -46,14 +46,14 @@ module _ (flows : ℕ) (s : State) (lent : List ℕ) where
       let places : List ℕ = list_to (place_byte flows s) most_flows in
       rw append_assoc
       (byte_behind (four_bytes s.slot) (places ++ drop (length (area_of flows s)) lent) slot_bytes i (length_four_bytes s.slot)
-      ∙ get_or_append places _ 0 i (omega (arith, length_list_to (place_byte flows s) most_flows))
+      ∙ get_or-append places _ 0 i (omega (arith, length_list_to (place_byte flows s) most_flows))
       ∙ get_d_list_to (place_byte flows s) most_flows i h)
 
   pub area_used : (i : ℕ) → i < most_flows → i < flows → (state_in (over (area_of flows s) lent)).done i ≡ s.done i
-  area_used i h l = area_place i h ∙ rw (lt_ltb i flows l)
+  area_used i h l = area_place i h ∙ rw (lt-ltb i flows l)
 
   pub area_unused : (i : ℕ) → i < most_flows → flows ≤ i → (state_in (over (area_of flows s) lent)).done i ≡ 0
-  area_unused i h l = area_place i h ∙ rw (le_ltb i flows l)
+  area_unused i h l = area_place i h ∙ rw (le-ltb i flows l)
 
 -- what is read back is abreast of what was written
 pub area_abreast :
@@ -75,5 +75,5 @@ abreast_area flows s u a =
   where
     same : (i : ℕ) → i < most_flows → place_byte flows s i ≡ place_byte flows u i
     same i h =
-        ⊎_elim (λ (e : ltb i flows ≡ true). rw e (a.done i (ltb_true i flows e))) (λ (e : ltb i flows ≡ false). rw e)
+        ⊎_elim (λ (e : ltb i flows ≡ true). rw e (a.done i (ltb-true i flows e))) (λ (e : ltb i flows ≡ false). rw e)
         (bool_cases (ltb i flows))

@@ -6,7 +6,7 @@ use mathlib.Core.Bool.{true, false, not, ◌&&◌}
 use mathlib.Core.Logic.{◌↔◌, ⊎_elim}
 use native.Mathlib.Omega.{arith}
 use lib.Dec.{leb}
-use borrow.Author.Tests.{leb_true, leb_false, le_leb, not_true, not_false}
+use borrow.Author.Tests.{leb-true, leb-false, le-leb, not-true, not-false}
 use Rattle.trade.specs.First.{first, some}
 use Rattle.trade.specs.Facts.{Facts}
 use Rattle.trade.specs.Bound.{Measure, slots_needed, Admissible, admissible, bound_by, boundless_by, accepted_by}
@@ -19,11 +19,11 @@ module _ (f : Facts) (μ : Measure) where
   admissible_rule l R e =
       let p = and_true (leb (f.len l) R && leb R (f.deadline l)) (leb (slots_needed f μ l R) R) e in
       let q = and_true (leb (f.len l) R) (leb R (f.deadline l)) p.0 in
-      record { plan = leb_true _ _ q.0; deadline = leb_true _ _ q.1; enough = leb_true _ _ p.1 }
+      record { plan = leb-true _ _ q.0; deadline = leb-true _ _ q.1; enough = leb-true _ _ p.1 }
 
   pub admissible_test : (l R : ℕ) → Admissible f μ l R → admissible f μ l R ≡ true
   unfolding admissible
-  admissible_test l R a = rw (le_leb _ _ a.plan, le_leb _ _ a.deadline, le_leb _ _ a.enough)
+  admissible_test l R a = rw (le-leb _ _ a.plan, le-leb _ _ a.deadline, le-leb _ _ a.enough)
 
   -- the bound, where it is within the deadline, is admissible
   pub bound_admissible : (l : ℕ) → bound_by f μ l ≤ f.deadline l → Admissible f μ l (bound_by f μ l)
@@ -45,11 +45,11 @@ module _ (f : Facts) (μ : Measure) where
   -- a flow has no bound exactly where none is within its deadline
   pub boundless_false : (l : ℕ) → boundless_by f μ l ≡ false → bound_by f μ l ≤ f.deadline l
   unfolding boundless_by
-  boundless_false l e = leb_true _ _ (not_false _ e)
+  boundless_false l e = leb-true _ _ (not-false _ e)
 
   pub boundless_true : (l : ℕ) → boundless_by f μ l ≡ true → f.deadline l < bound_by f μ l
   unfolding boundless_by
-  boundless_true l e = leb_false _ _ (not_true _ e)
+  boundless_true l e = leb-false _ _ (not-true _ e)
 
   -- accepted exactly when every flow has an admissible R
   pub accepted_exactly : (accepted_by f μ ≡ true) ↔ ((l : ℕ) → l < f.flows → (R : ℕ) × Admissible f μ l R)
@@ -59,7 +59,7 @@ module _ (f : Facts) (μ : Measure) where
       has : not (some (boundless_by f μ) f.flows) ≡ true → (l : ℕ) → l < f.flows → (R : ℕ) × Admissible f μ l R
       has e l h = (
         bound_by f μ l,
-        bound_admissible l (boundless_false l (some_false (boundless_by f μ) f.flows (not_true _ e) l h)),
+        bound_admissible l (boundless_false l (some_false (boundless_by f μ) f.flows (not-true _ e) l h)),
       )
 
       bounded : (l : ℕ) → (R : ℕ) × Admissible f μ l R → boundless_by f μ l ≡ false

@@ -5,7 +5,7 @@ use mathlib.Core.Path.{◌≡◌, ap}
 use mathlib.Core.List.{List}
 use lib.Dec.{ltb}
 use lib.ListN.{length, take}
-use borrow.Author.Tests.{le_ltb}
+use borrow.Author.Tests.{le-ltb}
 use Rattle.trade.specs.Bytes.{over}
 use Rattle.trade.specs.Layout.{Sections}
 use Rattle.trade.specs.Facts.{Facts}
@@ -37,7 +37,7 @@ advance_done waits releases a e = first_of_done _ _ a e
 pub code13_passes : (needed : ℕ) (memory : List ℕ) → needed ≤ length memory → (code13 needed memory).code ≡ 0
 unfolding code13
 code13_passes needed memory h =
-    ap (λ (a : Answer). a.code) (given_false 13 (ltb (length memory) needed) 0 (le_ltb (length memory) needed h))
+    ap (λ (a : Answer). a.code) (given_false 13 (ltb (length memory) needed) 0 (le-ltb (length memory) needed h))
 
 -- a table that was written passed its rules, and what was written is its book
 pub written_passed : (w : Writing) → (write_answer w).code ≡ 0 → Passed w.table table_rules

@@ -7,7 +7,7 @@ use mathlib.Core.List.{List, [], ◌∷◌, ◌++◌}
 use native.Mathlib.Omega.{arith}
 use lib.Dec.{eqb, ltb}
 use lib.ListN.{replicate}
-use borrow.Author.Tests.{le_ltb, ne_eqb}
+use borrow.Author.Tests.{le-ltb, ne_eqb}
 use Rattle.trade.specs.declared.answer.Answer.{Answer}
 use Rattle.trade.specs.Limits.{most_flows, end_of_clock}
 use Rattle.trade.specs.First.{first_from, first, some, sum_to, largest_from, list_from, list_to}
@@ -75,7 +75,7 @@ module _ (k : ℕ) (h : k < end_of_clock) where
       run = state_in (clock_only k)
 
       formed : (code10 none (releases_of none run) run).code ≡ 0
-      formed = let e : ltb end_of_clock run.slot ≡ false = le_ltb end_of_clock run.slot (omega (arith, read_back)) in rw (e, code10)
+      formed = let e : ltb end_of_clock run.slot ≡ false = le-ltb end_of_clock run.slot (omega (arith, read_back)) in rw (e, code10)
 
       running : (code12 run).code ≡ 0
       running = let e : eqb run.slot end_of_clock ≡ false = ne_eqb run.slot end_of_clock (λ e. omega (arith, read_back)) in rw (e, code12)
@@ -86,15 +86,15 @@ module _ (k : ℕ) (h : k < end_of_clock) where
       done_first (advance_answer (slot_of_none (clock_only k) [])) _ _ (ap (λ (a : Answer). a.code) slot_done)
       ∙ ap (λ (s : ℕ). clock_only (suc s)) read_back
 
-clock_only_law : (k : ℕ) → k ≤ end_of_clock → area_after book_of_none k ≡ clock_only k
+clock_only_lem : (k : ℕ) → k ≤ end_of_clock → area_after book_of_none k ≡ clock_only k
 unfolding computed clock_only
-clock_only_law zero h = refl
-clock_only_law (suc k) h = ap (λ (area : List ℕ). (advance_of (slot_of_none area [])).area) (clock_only_law k (omega arith)) ∙ slot_over k h
+clock_only_lem zero h = refl
+clock_only_lem (suc k) h = ap (λ (area : List ℕ). (advance_of (slot_of_none area [])).area) (clock_only_lem k (omega arith)) ∙ slot_over k h
 
 -- so every slot of the clock is done
 every_slot_done : (k : ℕ) → k < end_of_clock → (slot_of book_of_none k).answer ≡ done 0
 unfolding computed
-every_slot_done k h = ap (λ (area : List ℕ). (advance_of (slot_of_none area [])).answer) (clock_only_law k (omega arith)) ∙ slot_done k h
+every_slot_done k h = ap (λ (area : List ℕ). (advance_of (slot_of_none area [])).answer) (clock_only_lem k (omega arith)) ∙ slot_done k h
 
 pub cases_hold : Cases
 unfolding computed

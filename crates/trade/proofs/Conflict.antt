@@ -5,7 +5,7 @@ use mathlib.Core.Bool.{Bool, true, false, not, ◌||◌}
 use mathlib.Core.Logic.{⊎_elim}
 use mathlib.Core.List.{List, [], ◌∷◌, ◌++◌}
 use lib.Dec.{eqb}
-use borrow.Author.Tests.{eqb_true, eqb_false, eq_eqb, ne_eqb, not_true}
+use borrow.Author.Tests.{eqb-true, eqb-false, eq-eqb, ne_eqb, not-true}
 use Rattle.trade.specs.Conflict.{meet, conflict, conflicts_with, conflict_free}
 use Rattle.trade.proofs.First.{bool_cases, and_true, or_false}
 use Rattle.trade.specs.declared.node.Transmission.{Transmission}
@@ -13,8 +13,8 @@ use Rattle.trade.proofs.Valid.{Placed}
 
 pub eqb_comm : (a b : ℕ) → eqb a b ≡ eqb b a
 eqb_comm a b =
-    ⊎_elim (λ (e : eqb a b ≡ true). e ∙ sym (eq_eqb b a (sym (eqb_true a b e))))
-    (λ (e : eqb a b ≡ false). e ∙ sym (ne_eqb b a (λ (p : b ≡ a). eqb_false a b e (sym p))))
+    ⊎_elim (λ (e : eqb a b ≡ true). e ∙ sym (eq-eqb b a (sym (eqb-true a b e))))
+    (λ (e : eqb a b ≡ false). e ∙ sym (ne_eqb b a (λ (p : b ≡ a). eqb-false a b e (sym p))))
     (bool_cases (eqb a b))
 
 -- six tests or two, in another order
@@ -92,5 +92,5 @@ free_snoc disturbs (u ∷ us) t f n =
     let p = or_false (conflict disturbs u t) (conflicts_with disturbs us t) n in
     let q = and_true (not (conflicts_with disturbs us u)) (conflict_free disturbs us) f in
     let r : conflicts_with disturbs (us ++ (t ∷ [])) u ≡ false =
-    conflicts_snoc disturbs us t u (not_true (conflicts_with disturbs us u) q.0) (conflict_symmetric disturbs t u ∙ p.0) in
+    conflicts_snoc disturbs us t u (not-true (conflicts_with disturbs us u) q.0) (conflict_symmetric disturbs t u ∙ p.0) in
     rw r (free_snoc disturbs us t q.1 p.1)

@@ -5,8 +5,8 @@ use mathlib.Core.Path.{◌≡◌, ◌∙◌, ap, ap₂}
 use mathlib.Core.List.{List, ◌++◌}
 use native.Mathlib.Omega.{arith}
 use native.Mathlib.Nat.{add_assoc}
-use lib.ListN.{length, take, drop, length_append, length_drop, get_or_append}
-use lib.Seq.{length_take_le, get_or_take, get_or_drop}
+use lib.ListN.{length, take, drop, length-append, length-drop, get_or-append}
+use lib.Seq.{length-take-le, get_or-take, get_or-drop}
 use Rattle.trade.specs.Limits.{row_bytes, record_bytes, step_bytes}
 use Rattle.trade.specs.First.{sum_to}
 use Rattle.trade.specs.Bytes.{byte, word}
@@ -20,29 +20,29 @@ use Rattle.trade.proofs.Used.{Full, NoMore}
 -- BYTES with a part exchanged for others
 module _ (from to : ℕ) (new old : List ℕ) (h : from ≤ length old) where
   length_front : length (take from old ++ new) ≡ from + length new
-  length_front = length_append (take from old) new ∙ ap (λ (k : ℕ). k + length new) (length_take_le from old h)
+  length_front = length-append (take from old) new ∙ ap (λ (k : ℕ). k + length new) (length-take-le from old h)
 
   pub length_spliced : length (spliced from to new old) ≡ from + length new + (length old - to)
   unfolding spliced
   length_spliced =
-      length_append (take from old ++ new) (drop to old) ∙ ap₂ (λ (a b : ℕ). a + b) length_front (length_drop to old)
+      length-append (take from old ++ new) (drop to old) ∙ ap₂ (λ (a b : ℕ). a + b) length_front (length-drop to old)
 
   pub before_cut : (i : ℕ) → i < from → byte (spliced from to new old) i ≡ byte old i
   unfolding spliced
   before_cut i l =
-      get_or_append (take from old ++ new) (drop to old) 0 i (omega (arith, length_front))
-      ∙ get_or_append (take from old) new 0 i (omega (arith, length_take_le from old h))
-      ∙ get_or_take from old i 0 l
+      get_or-append (take from old ++ new) (drop to old) 0 i (omega (arith, length_front))
+      ∙ get_or-append (take from old) new 0 i (omega (arith, length-take-le from old h))
+      ∙ get_or-take from old i 0 l
 
   in_cut : (i : ℕ) → i < length new → byte (spliced from to new old) (from + i) ≡ byte new i
   unfolding spliced
   in_cut i l =
-      get_or_append (take from old ++ new) (drop to old) 0 (from + i) (omega (arith, length_front))
-      ∙ byte_behind (take from old) new from i (length_take_le from old h)
+      get_or-append (take from old ++ new) (drop to old) 0 (from + i) (omega (arith, length_front))
+      ∙ byte_behind (take from old) new from i (length-take-le from old h)
 
   pub behind_cut : (i : ℕ) → byte (spliced from to new old) (from + length new + i) ≡ byte old (to + i)
   unfolding spliced
-  behind_cut i = byte_behind (take from old ++ new) (drop to old) (from + length new) i length_front ∙ get_or_drop to old i 0
+  behind_cut i = byte_behind (take from old ++ new) (drop to old) (from + length new) i length_front ∙ get_or-drop to old i 0
 
 -- records whose bytes are the same have the same fields
 same_fields :

@@ -4,8 +4,8 @@ use mathlib.Core.Path.{◌≡◌, refl, sym, ◌∙◌, ap}
 use mathlib.Core.Logic.{⊎_elim}
 use mathlib.Core.List.{[], ◌∷◌, ◌++◌}
 use native.Mathlib.Omega.{arith}
-use lib.ListN.{length, get_or, length_append, get_or_append}
-use lib.Seq.{get_or_append_add}
+use lib.ListN.{length, get_or, length-append, get_or-append}
+use lib.Seq.{get_or-append-add}
 use Rattle.trade.specs.Facts.{Facts}
 use Rattle.trade.specs.Interference.{interference}
 use Rattle.trade.specs.Bound.{bound_by, bound_given, bounds_above, fairly, measure}
@@ -16,7 +16,7 @@ module _ (f : Facts) (cost : ℕ → ℕ → ℕ) where
   length_above : (k : ℕ) → length (bounds_above f cost k) ≡ k
   unfolding bounds_above
   length_above zero = refl
-  length_above (suc k) = length_append (bounds_above f cost k) _ ∙ omega (arith, length_above k)
+  length_above (suc k) = length-append (bounds_above f cost k) _ ∙ omega (arith, length_above k)
 
   -- each stands in its place
   pub above_at : (k h : ℕ) → h < k → get_or (bounds_above f cost k) h 0 ≡ (fairly f cost).carry h
@@ -24,12 +24,12 @@ module _ (f : Facts) (cost : ℕ → ℕ → ℕ) where
   above_at zero h l = absurd (omega arith)
   above_at (suc k) h l =
       ⊎_elim
-      (λ (b : h < k). get_or_append (bounds_above f cost k) _ 0 h (omega (arith, length_above k)) ∙ above_at k h b)
+      (λ (b : h < k). get_or-append (bounds_above f cost k) _ 0 h (omega (arith, length_above k)) ∙ above_at k h b)
       (λ (b : k ≤ h).
       let e : k ≡ h = omega arith in
       let at : h ≡ length (bounds_above f cost k) + 0 = omega (arith, length_above k) in
       ap (λ (n : ℕ). get_or (bounds_above f cost k ++ (bound_given f cost (bounds_above f cost k) k ∷ [])) n 0) at
-      ∙ get_or_append_add (bounds_above f cost k) (bound_given f cost (bounds_above f cost k) k ∷ []) 0 0
+      ∙ get_or-append-add (bounds_above f cost k) (bound_given f cost (bounds_above f cost k) k ∷ []) 0 0
       ∙ ap (fairly f cost).carry e)
       (lt_or_ge h k)
 

@@ -5,9 +5,9 @@ use mathlib.Core.Path.{◌≡◌, refl, sym, ◌∙◌, ap, subst}
 use mathlib.Core.Bool.{Bool, true, false, ◌&&◌, ◌||◌, true≢false}
 use mathlib.Core.Logic.{◌⊎◌, inl, inr, ⊎_elim}
 use native.Mathlib.Omega.{arith}
-use native.Mathlib.Nat.{zero_add}
+use native.Mathlib.Nat.{zero-add}
 use lib.Dec.{ltb}
-use borrow.Author.Tests.{ltb_true, ltb_false, lt_ltb, le_ltb}
+use borrow.Author.Tests.{ltb-true, ltb-false, lt-ltb, le-ltb}
 use Rattle.trade.specs.First.{first_from, first, some}
 
 -- a Boolean is one or the other, and not both
@@ -37,7 +37,7 @@ or_right false b e = e
 
 -- two numbers, one below the other or not
 pub lt_or_ge : (m n : ℕ) → (m < n) ⊎ (n ≤ m)
-lt_or_ge m n = ⊎_elim (λ e. inl (ltb_true m n e)) (λ e. inr (ltb_false m n e)) (bool_cases (ltb m n))
+lt_or_ge m n = ⊎_elim (λ e. inl (ltb-true m n e)) (λ e. inr (ltb-false m n e)) (bool_cases (ltb m n))
 
 -- what a search from i up to n finds
 pub record Found (test : ℕ → Bool) (i n at : ℕ) : Type 0 where
@@ -93,7 +93,7 @@ first_from_found test i (suc k) = ⊎_elim hit (miss (first_from_found test (suc
 -- the first index below n at which a test holds, or n
 pub first_found : (test : ℕ → Bool) (n : ℕ) → Found test 0 n (first test n)
 unfolding first
-first_found test n = subst (λ (e : ℕ). Found test 0 e (first_from test 0 n)) (zero_add n) (first_from_found test 0 n)
+first_found test n = subst (λ (e : ℕ). Found test 0 e (first_from test 0 n)) (zero-add n) (first_from_found test 0 n)
 
 pub first_within : (test : ℕ → Bool) (n : ℕ) → first test n ≤ n
 first_within test n = (first_found test n).within
@@ -125,23 +125,23 @@ first_cong test other n e =
 pub some_true : (test : ℕ → Bool) (n : ℕ) → some test n ≡ true → (first test n < n) × (test (first test n) ≡ true)
 unfolding some
 some_true test n e =
-    let h : first test n < n = ltb_true (first test n) n e in
+    let h : first test n < n = ltb-true (first test n) n e in
     (h, first_holds test n h)
 
 pub some_false : (test : ℕ → Bool) (n : ℕ) → some test n ≡ false → (j : ℕ) → j < n → test j ≡ false
 unfolding some
-some_false test n e j h = first_before test n j (omega (arith, ltb_false (first test n) n e))
+some_false test n e j h = first_before test n j (omega (arith, ltb-false (first test n) n e))
 
 pub some_intro : (test : ℕ → Bool) (n j : ℕ) → j < n → test j ≡ true → some test n ≡ true
 unfolding some
 some_intro test n j h e =
-    ⊎_elim (λ (l : first test n < n). lt_ltb (first test n) n l)
+    ⊎_elim (λ (l : first test n < n). lt-ltb (first test n) n l)
     (λ (g : n ≤ first test n). absurd (not_both e (first_before test n j (omega arith))))
     (lt_or_ge (first test n) n)
 
 pub some_none : (test : ℕ → Bool) (n : ℕ) → ((j : ℕ) → j < n → test j ≡ false) → some test n ≡ false
 unfolding some
-some_none test n b = le_ltb (first test n) n (omega (arith, first_none test n b))
+some_none test n b = le-ltb (first test n) n (omega (arith, first_none test n b))
 
 pub some_cong : (test other : ℕ → Bool) (n : ℕ) → ((j : ℕ) → j < n → test j ≡ other j) → some test n ≡ some other n
 unfolding some

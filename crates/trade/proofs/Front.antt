@@ -4,9 +4,9 @@ use Prim.Native.Nat.{ℕ, ◌+◌, ◌-◌, ◌*◌, ◌≤◌}
 use mathlib.Core.Path.{◌≡◌, refl, ap}
 use mathlib.Core.List.{List, ◌++◌}
 use native.Mathlib.Omega.{arith}
-use lib.ListN.{length, take, drop, length_append}
-use lib.Seq.{drop_append_add}
-use borrow.Author.Tests.{le_ltb}
+use lib.ListN.{length, take, drop, length-append}
+use lib.Seq.{drop-append-add}
+use borrow.Author.Tests.{le-ltb}
 use Rattle.trade.specs.Limits.{row_bytes, record_bytes, trailer_bytes, grant_bytes}
 use Rattle.trade.specs.Bytes.{part}
 use Rattle.trade.specs.Layout.{trailer, rows_distance, records_distance, steps_distance, node_count, flow_count, sections_of}
@@ -24,8 +24,8 @@ use Rattle.trade.proofs.Whole.{Framed}
 -- the same place, counted back from the end
 drop_front : (front b : List ℕ) (d : ℕ) → d ≤ length b → drop (length (front ++ b) - d) (front ++ b) ≡ drop (length b - d) b
 drop_front front b d h =
-    let e : length (front ++ b) - d ≡ length front + (length b - d) = omega (arith, length_append front b) in
-    rw e (drop_append_add front b (length b - d))
+    let e : length (front ++ b) - d ≡ length front + (length b - d) = omega (arith, length-append front b) in
+    rw e (drop-append-add front b (length b - d))
 
 module _ (front b : List ℕ) (f : Framed b) where
   trailer_front : trailer (front ++ b) ≡ trailer b
@@ -51,11 +51,11 @@ module _ (front b : List ℕ) (f : Framed b) where
   said_front = ap facts_of sections_front
 
   longer : length b ≤ length (front ++ b)
-  longer = omega (arith, length_append front b)
+  longer = omega (arith, length-append front b)
 
   code1_front : code1 (front ++ b) ≡ code1 b
   unfolding code1
-  code1_front = rw (le_ltb (length (front ++ b)) trailer_bytes (omega (arith, longer, f.trailer)), le_ltb (length b) trailer_bytes f.trailer)
+  code1_front = rw (le-ltb (length (front ++ b)) trailer_bytes (omega (arith, longer, f.trailer)), le-ltb (length b) trailer_bytes f.trailer)
 
   code2_front : code2 (front ++ b) ≡ code2 b
   unfolding code2
@@ -66,8 +66,8 @@ module _ (front b : List ℕ) (f : Framed b) where
   code4_front =
       rw (
         trailer_front,
-        le_ltb (length (front ++ b)) (rows_distance b) (omega (arith, longer, f.rows)),
-        le_ltb (length b) (rows_distance b) f.rows,
+        le-ltb (length (front ++ b)) (rows_distance b) (omega (arith, longer, f.rows)),
+        le-ltb (length b) (rows_distance b) f.rows,
       )
 
   code7_front : code7 (front ++ b) ≡ code7 b
@@ -99,18 +99,18 @@ module _ (front b : List ℕ) (f : Framed b) where
     unfolding check_by check_answer_by
     check_front_same = rw (first_of_same no_number check_front refl, said_front)
 
-    start_answer_law :
+    start_answer_lem :
         (area : List ℕ)
         → start_answer_by measured (record { book = front ++ b; area = area }) ≡ start_answer_by measured (record { book = b; area = area })
     unfolding start_answer_by
-    start_answer_law area =
+    start_answer_lem area =
         first_of_same no_number (same_append (same_on (λ (s : Starting). s.book) check_front) (same_more refl same_none)) refl
 
     pub start_front :
         (area : List ℕ)
         → start_by measured (record { book = front ++ b; area = area }) ≡ start_by measured (record { book = b; area = area })
     unfolding start_by
-    start_front area = rw (start_answer_law area, said_front)
+    start_front area = rw (start_answer_lem area, said_front)
 
   -- ADVANCE, by any rule of waiting and any releases
   module _ (waits : Waits) (releases : Facts → State → Releases) (area grants : List ℕ) where
@@ -125,9 +125,9 @@ module _ (front b : List ℕ) (f : Framed b) where
     unfolding flows_granted_by whole bare
     granted_front = rw said_front
 
-    advance_answer_law : advance_answer_by waits releases whole ≡ advance_answer_by waits releases bare
+    advance_answer_lem : advance_answer_by waits releases whole ≡ advance_answer_by waits releases bare
     unfolding advance_answer_by whole bare
-    advance_answer_law =
+    advance_answer_lem =
         first_of_same (λ (a : Advancing). length (flows_granted_by waits releases a))
         (same_append (same_on (λ (a : Advancing). a.book) book_front)
         (same_more refl
@@ -140,4 +140,4 @@ module _ (front b : List ℕ) (f : Framed b) where
         advance_by waits releases (record { book = front ++ b; area = area; grants = grants })
         ≡ advance_by waits releases (record { book = b; area = area; grants = grants })
     unfolding advance_by next_area_by grants_in_by whole bare
-    advance_front = rw (advance_answer_law, said_front, granted_front)
+    advance_front = rw (advance_answer_lem, said_front, granted_front)

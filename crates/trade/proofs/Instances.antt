@@ -4,7 +4,7 @@ use Prim.Native.Nat.{ℕ, suc, ◌+◌, ◌-◌, ◌*◌, ◌/◌, ◌≤◌, �
 use mathlib.Core.Path.{◌≡◌}
 use mathlib.Core.Logic.{◌↔◌, ⊎_elim}
 use native.Mathlib.Omega.{arith}
-use native.Mathlib.Nat.{div_lt_iff_lt_mul, le_trans, mul_le_mul_left, mul_one}
+use native.Mathlib.Nat.{div-lt_iff_lt-mul, le_trans, mul-le-mul_left, mul-one}
 use Rattle.trade.specs.Bound.{ceil, instances}
 use Rattle.trade.proofs.First.{lt_or_ge}
 
@@ -19,12 +19,12 @@ ceil_least a b n p = (below, above)
     below : (a + (b - 1)) / b ≤ n → a ≤ n * b
     below h =
         let l : (a + (b - 1)) / b < suc n = omega arith in
-        omega (arith, (div_lt_iff_lt_mul p).0 l, next)
+        omega (arith, (div-lt_iff_lt-mul p).0 l, next)
 
     above : a ≤ n * b → (a + (b - 1)) / b ≤ n
     above h =
         let l : a + (b - 1) < suc n * b = omega (arith, next) in
-        omega (arith, (div_lt_iff_lt_mul p).1 l)
+        omega (arith, (div-lt_iff_lt-mul p).1 l)
 
 pub ceil_reaches : (a b : ℕ) → 1 ≤ b → a ≤ ceil a b * b
 ceil_reaches a b p = (ceil_least a b (ceil a b) p).0 (omega arith)
@@ -39,10 +39,10 @@ ceil_at a b n p h l =
 pub ceil_mono : (a c b d : ℕ) → 1 ≤ d → d ≤ b → a ≤ c → ceil a b ≤ ceil c d
 ceil_mono a c b d p q h =
     (ceil_least a b (ceil c d) (omega arith)).1
-    (le_trans h (le_trans (ceil_reaches c d p) (mul_le_mul_left (ceil c d) q)))
+    (le_trans h (le_trans (ceil_reaches c d p) (mul-le-mul_left (ceil c d) q)))
 
 pub ceil_most : (a b : ℕ) → 1 ≤ b → ceil a b ≤ a
-ceil_most a b p = (ceil_least a b a p).1 (omega (arith, mul_le_mul_left a p, mul_one a))
+ceil_most a b p = (ceil_least a b a p).1 (omega (arith, mul-le-mul_left a p, mul-one a))
 
 pub instances_mono :
     (R S carry other period shorter : ℕ)

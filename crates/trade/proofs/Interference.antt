@@ -4,7 +4,7 @@ use mathlib.Core.Path.{◌≡◌, refl, sym, ◌∙◌, ap, ap₂}
 use mathlib.Core.Bool.{Bool}
 use mathlib.Core.List.{List, [], ◌∷◌}
 use native.Mathlib.Omega.{arith}
-use native.Mathlib.Nat.{le_trans, add_le_add, add_suc, zero_add}
+use native.Mathlib.Nat.{le_trans, add-le-add, add-suc, zero-add}
 use Rattle.trade.specs.First.{largest_from}
 use Rattle.trade.specs.Facts.{Facts}
 use Rattle.trade.specs.Interference.{Matrix, one, Choice, chosen, choose, count_of, Largest, matrix, IsInterference, worst, worst_path, interference}
@@ -15,7 +15,7 @@ pub choice_at_most : (marks : Matrix) (rows : ℕ) {i k : ℕ} {cs : List ℕ} (
 unfolding count_of worst
 choice_at_most marks rows j chosen = omega arith
 choice_at_most marks rows j (choose {i = i} {k = k} {c = c} l u rest) =
-    le_trans (add_le_add (omega arith) (choice_at_most marks rows (suc j) rest))
+    le_trans (add-le-add (omega arith) (choice_at_most marks rows (suc j) rest))
     (largest_above (λ (d : ℕ). one (marks d j) + worst marks rows d (suc j) k) i (rows - i) c l (omega arith))
 
 -- some choice reaches it, where l has a step to choose
@@ -75,7 +75,7 @@ worst_shifted marks other rows d (suc k) i j same =
     largest_cong _ _ i (rows - i)
     (λ c l u.
     ap₂ (λ (m : Bool) (w : ℕ). one m + w) (same c j (omega arith) (omega arith))
-    (rw (← add_suc d j) (worst_shifted marks other rows d k c (suc j) (λ e b g h. same e b g (omega arith)))))
+    (rw (← add-suc d j) (worst_shifted marks other rows d k c (suc j) (λ e b g h. same e b g (omega arith)))))
 
 pub paths_agree :
     (marks other : Matrix) (rows columns : ℕ)
@@ -83,4 +83,4 @@ pub paths_agree :
     → worst_path marks rows columns ≡ worst_path other rows columns
 unfolding worst_path
 paths_agree marks other rows columns e =
-    worst_shifted marks other rows 0 columns 0 0 (λ c b l h. rw (zero_add b) (e c b l (omega arith)))
+    worst_shifted marks other rows 0 columns 0 0 (λ c b l h. rw (zero-add b) (e c b l (omega arith)))

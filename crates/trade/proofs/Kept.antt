@@ -5,8 +5,8 @@ use mathlib.Core.Path.{◌≡◌, refl, sym, ◌∙◌, ap, ap₂}
 use mathlib.Core.Logic.{⊎_elim}
 use mathlib.Core.List.{List}
 use native.Mathlib.Omega.{arith}
-use borrow.Author.Tests.{eqb_true, eq_eqb, lt_ltb, le_ltb, not_false}
-use lib.ListN.{length, replicate, length_replicate, get_or_replicate}
+use borrow.Author.Tests.{eqb-true, eq-eqb, lt-ltb, le-ltb, not-false}
+use lib.ListN.{length, replicate, length-replicate, get_or-replicate}
 use lib.Seq.{ext_get_or}
 use Rattle.trade.specs.Limits.{most_flows}
 use Rattle.trade.specs.First.{some}
@@ -56,7 +56,7 @@ square_held F figures n e =
 -- THE FIGURES of facts
 pub figures_at : (f : Facts) → f.flows ≤ most_flows → (l h : ℕ) → l < f.flows → h < l → figure_in (figures_of f) l h ≡ interference f l h
 unfolding figures_of
-figures_at f m l h p q = square_at _ l h (omega arith) (omega arith) ∙ rw (lt_ltb l f.flows p, lt_ltb h l q) refl
+figures_at f m l h p q = square_at _ l h (omega arith) (omega arith) ∙ rw (lt-ltb l f.flows p, lt-ltb h l q) refl
 
 -- facts that say the same of all their flows have the same
 pub figures_alike : (f g : Facts) → f.flows ≡ g.flows → Alike f.flows f g → figures_of f ≡ figures_of g
@@ -68,10 +68,10 @@ figures_alike f g m a =
     (λ (u : l < f.flows).
     ⊎_elim
     (λ (v : h < l).
-    rw (lt_ltb l f.flows u, lt_ltb l g.flows (omega (arith, m)), lt_ltb h l v) (interference_alike f.flows f g a l h u (omega arith)))
-    (λ (v : l ≤ h). rw (lt_ltb l f.flows u, lt_ltb l g.flows (omega (arith, m)), le_ltb h l v) refl)
+    rw (lt-ltb l f.flows u, lt-ltb l g.flows (omega (arith, m)), lt-ltb h l v) (interference_alike f.flows f g a l h u (omega arith)))
+    (λ (v : l ≤ h). rw (lt-ltb l f.flows u, lt-ltb l g.flows (omega (arith, m)), le-ltb h l v) refl)
     (lt_or_ge h l))
-    (λ (u : f.flows ≤ l). rw (le_ltb l f.flows u, le_ltb l g.flows (omega (arith, m))) refl)
+    (λ (u : f.flows ≤ l). rw (le-ltb l f.flows u, le-ltb l g.flows (omega (arith, m))) refl)
     (lt_or_ge l f.flows))
 
 -- the count of nodes is not read
@@ -86,8 +86,8 @@ pub figures_none : (f : Facts) → f.flows ≡ 0 → figures_of f ≡ replicate 
 unfolding figures_of
 figures_none f e =
     sym
-    (square_held _ (replicate figures_room 0) (length_replicate {A = ℕ} figures_room 0)
-    (λ k h. get_or_replicate figures_room k 0 0 h ∙ rw (e, le_ltb (k / most_flows) 0 (omega arith)) refl))
+    (square_held _ (replicate figures_room 0) (length-replicate {A = ℕ} figures_room 0)
+    (λ k h. get_or-replicate figures_room k 0 0 h ∙ rw (e, le-ltb (k / most_flows) 0 (omega arith)) refl))
 
 -- CODE 17 is not given exactly where the figures are right
 pub right_passes : (t : Tabled) → RightFigures t → (code17 t).code ≡ 0
@@ -98,13 +98,13 @@ right_passes t right =
     (some_none (wrong_line t) t.sections.flows
     (λ l p.
     some_none _ l
-    (λ h q. rw (eq_eqb (figure_in t.figures l h) (interference (facts_of t.sections) l h) (right l h p q)) refl))))
+    (λ h q. rw (eq-eqb (figure_in t.figures l h) (interference (facts_of t.sections) l h) (right l h p q)) refl))))
 
 pub passed_right : (t : Tabled) → (code17 t).code ≡ 0 → RightFigures t
 unfolding code17 wrong_line given_first
 passed_right t e l h p q =
     let none = some_false (wrong_line t) t.sections.flows (given_passed 16 (some (wrong_line t) t.sections.flows) _ e) in
-    eqb_true (figure_in t.figures l h) (interference (facts_of t.sections) l h) (not_false _ (some_false _ l (none l p) h q))
+    eqb-true (figure_in t.figures l h) (interference (facts_of t.sections) l h) (not-false _ (some_false _ l (none l p) h q))
 
 -- the counts are not read
 pub interference_counted :

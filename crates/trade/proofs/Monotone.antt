@@ -4,7 +4,7 @@ use Prim.Native.Nat.{ℕ, zero, suc, ◌*◌, ◌≤◌, ◌<◌}
 use mathlib.Core.Path.{◌≡◌, refl}
 use mathlib.Core.Logic.{⊎_elim}
 use native.Mathlib.Omega.{arith}
-use native.Mathlib.Nat.{add_le_add, mul_le_mul}
+use native.Mathlib.Nat.{add-le-add, mul-le-mul}
 use Rattle.trade.specs.Facts.{Facts}
 use Rattle.trade.specs.Bound.{Measure, instances, slots_needed, Admissible, admissible, bound_by, deadlined, fairly}
 use Rattle.trade.proofs.First.{lt_or_ge, first_within}
@@ -49,7 +49,7 @@ pub term_mono :
     → cost ≤ more
     → instances R carry period * cost ≤ instances R other shorter * more
 term_mono R carry other period shorter cost more some longer less cheaper =
-    mul_le_mul (instances_mono R R carry other period shorter some longer (omega arith) less) cheaper
+    mul-le-mul (instances_mono R R carry other period shorter some longer (omega arith) less) cheaper
 
 -- flow l has no more above it, or of its own, by one set of facts and measure than by another
 pub record Lighter (f g : Facts) (μ ν : Measure) (l : ℕ) : Type 0 where
@@ -63,7 +63,7 @@ module _ (f g : Facts) (μ ν : Measure) (l : ℕ) (a : Lighter f g μ ν l) whe
   needed_mono : (R : ℕ) → slots_needed f μ l R ≤ slots_needed g ν l R
   unfolding slots_needed
   needed_mono R =
-      add_le_add a.len
+      add-le-add a.len
       (sum_mono (λ (h : ℕ). instances R (μ.carry h) (f.period h) * μ.cost l h)
       (λ (h : ℕ). instances R (ν.carry h) (g.period h) * ν.cost l h) l
       (λ h b.

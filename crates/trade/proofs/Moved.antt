@@ -48,16 +48,16 @@ module _ (s : Sections) (x : Exchange) (full : Full s) (fits : Fits s x) where
   unfolding facts_of recut
   same_disturbs = refl
 
-  all_steps_law : all_steps old ≡ first_step old x.to + sum_to (λ j. old.len (x.to + j)) (s.flows - x.to)
+  all_steps_lem : all_steps old ≡ first_step old x.to + sum_to (λ j. old.len (x.to + j)) (s.flows - x.to)
   unfolding all_steps first_step facts_of
-  all_steps_law = sum_rest (λ i. field s.records i 4) x.to s.flows fits.within
+  all_steps_lem = sum_rest (λ i. field s.records i 4) x.to s.flows fits.within
 
   first_in : first_step old x.from ≤ first_step old x.to
   unfolding first_step
   first_in = sum_le old.len x.from x.to fits.order
 
   room : step_bytes * first_step old x.from ≤ length s.steps
-  room = omega (arith, full.steps, all_steps_law, first_in)
+  room = omega (arith, full.steps, all_steps_lem, first_in)
 
   -- BEFORE the place
   len_before : (i : ℕ) → i < x.from → new.len i ≡ old.len i

@@ -7,8 +7,8 @@ use mathlib.Core.Logic.{◌⊎◌, inl, inr, ⊎_elim}
 use mathlib.Core.List.{List, [], ◌∷◌, ◌++◌}
 use native.Mathlib.Omega.{arith}
 use lib.Dec.{ltb}
-use lib.ListN.{length, length_append}
-use borrow.Author.Tests.{eqb_true, ltb_false}
+use lib.ListN.{length, length-append}
+use borrow.Author.Tests.{eqb-true, ltb-false}
 use Rattle.trade.specs.Limits.{most_nodes, most_flows, most_steps, packing, end_of_clock}
 use Rattle.trade.specs.First.{first, some, sum_to}
 use Rattle.trade.specs.Facts.{Facts, said, first_step, all_steps}
@@ -42,7 +42,7 @@ first_of_fits {x = x} number (fits_more {rule = rule} {rules = rules} l rest) n 
         ((rule x).code ≡ 0 → (first_of rules number x).number < packing)
         → (is_done (rule x) ≡ true) ⊎ (is_done (rule x) ≡ false)
         → (first_of (rule ∷ rules) number x).number < packing
-    step later (inl d) = rw (first_of_rule rule rules number x, d) (later (eqb_true (rule x).code 0 d))
+    step later (inl d) = rw (first_of_rule rule rules number x, d) (later (eqb-true (rule x).code 0 d))
     step later (inr d) = rw (first_of_rule rule rules number x, d) l
 
 pub fits_append : {A : Type 0} {x : A} {rules more : List (A → Answer)} → Fitting x rules → (Passed x rules → Fitting x more) → Fitting x (rules ++ more)
@@ -72,8 +72,8 @@ counted : (f : Facts) → (code3 f).code ≡ 0 → (f.nodes ≤ most_nodes) × (
 unfolding code3 outside
 counted f e =
     let p = or_false (outside 1 most_nodes f.nodes) (outside 0 most_flows f.flows) (given_passed 2 _ 0 e) in (
-      ltb_false _ _ (or_false (ltb f.nodes 1) (ltb most_nodes f.nodes) p.0).1,
-      ltb_false _ _ (or_false (ltb f.flows 0) (ltb most_flows f.flows) p.1).1,
+      ltb-false _ _ (or_false (ltb f.nodes 1) (ltb most_nodes f.nodes) p.0).1,
+      ltb-false _ _ (or_false (ltb f.flows 0) (ltb most_flows f.flows) p.1).1,
     )
 
 rows_fit : (f : Facts) → (code3 f).code ≡ 0 → (code5 f).number < packing
@@ -150,7 +150,7 @@ pub going_few : (waits : Rule) (work : ℕ → Bool) (k : ℕ) → length (going
 unfolding going
 going_few waits work zero = omega arith
 going_few waits work (suc k) =
-    ⊎_elim (λ e. rw (going_goes waits work k e, length_append (going waits work k) (k ∷ [])) (omega (arith, going_few waits work k)))
+    ⊎_elim (λ e. rw (going_goes waits work k e, length-append (going waits work k) (k ∷ [])) (omega (arith, going_few waits work k)))
     (λ e. rw (going_stays waits work k e) (omega (arith, going_few waits work k)))
     (bool_cases (work k && not (waits (going waits work k) k)))
 

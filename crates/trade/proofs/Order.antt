@@ -7,9 +7,9 @@ use mathlib.Core.Logic.{◌⊎◌, inl, inr, ⊎_elim}
 use mathlib.Core.List.{List, [], ◌∷◌, map}
 use native.Mathlib.Omega.{arith}
 use lib.Dec.{eqb}
-use lib.ListN.{length, get_or, length_append, get_or_append}
+use lib.ListN.{length, get_or, length-append, get_or-append}
 use lib.Seq.{get_or_at}
-use borrow.Author.Tests.{eqb_true, eqb_false, eq_eqb, not_true}
+use borrow.Author.Tests.{eqb-true, eqb-false, eq-eqb, not-true}
 use Rattle.trade.specs.Conflict.{conflict, conflicts_with}
 use Rattle.trade.specs.Slot.{Rule, going, among}
 use Rattle.trade.specs.declared.node.Transmission.{Transmission}
@@ -20,7 +20,7 @@ use Rattle.trade.proofs.Slot.{going_goes, going_stays, going_other, going_below}
 pub among_at : (is : List ℕ) (a : ℕ) → a < length is → among is (get_or is a 0) ≡ true
 unfolding among
 among_at [] a a< = absurd (omega arith)
-among_at (h ∷ is) zero a< = rw (eq_eqb h h refl)
+among_at (h ∷ is) zero a< = rw (eq-eqb h h refl)
 among_at (h ∷ is) (suc a) a< = or_right (eqb h (get_or is a 0)) (among is (get_or is a 0)) (among_at is a (omega arith))
 
 -- what is among them stands at a place
@@ -28,7 +28,7 @@ pub place_of : (is : List ℕ) (i : ℕ) → among is i ≡ true → (a : ℕ) �
 unfolding among
 place_of [] i m = absurd (not_both m refl)
 place_of (h ∷ is) i m =
-    ⊎_elim (λ (e : eqb h i ≡ true). (0, omega arith, eqb_true h i e))
+    ⊎_elim (λ (e : eqb h i ≡ true). (0, omega arith, eqb-true h i e))
     (λ (later : among is i ≡ true). let (a, a<, e) = place_of is i later in (suc a, omega arith, e))
     (or_cases (eqb h i) (among is i) m)
 
@@ -42,7 +42,7 @@ unfolding conflicts_with among
 conflicts_none disturbs next t [] h e m = absurd (not_both m refl)
 conflicts_none disturbs next t (i ∷ is) h e m =
     let (this, others) = or_false (conflict disturbs (next i) t) (conflicts_with disturbs (map next is) t) e in
-    ⊎_elim (λ (q : eqb i h ≡ true). rw (eqb_true i h q) at this) (λ (later : among is h ≡ true). conflicts_none disturbs next t is h others later)
+    ⊎_elim (λ (q : eqb i h ≡ true). rw (eqb-true i h q) at this) (λ (later : among is h ≡ true). conflicts_none disturbs next t is h others later)
     (or_cases (eqb i h) (among is h) m)
 
 -- a rule of waiting, and which flows are unfinished
@@ -60,10 +60,10 @@ module _ (waits : Rule) (work : ℕ → Bool) where
           → (eqb k i ≡ true) ⊎ (eqb k i ≡ false)
           → waits (going waits work i) i ≡ false
       step before (inl d) (inl q) =
-          let e : k ≡ i = eqb_true k i q in
-          rw (← e) (not_true (waits (going waits work k) k) (and_true (work k) (not (waits (going waits work k) k)) d).1)
+          let e : k ≡ i = eqb-true k i q in
+          rw (← e) (not-true (waits (going waits work k) k) (and_true (work k) (not (waits (going waits work k) k)) d).1)
       step before (inr d) (inl q) = before (sym (ap (λ (hs : List ℕ). among hs i) (going_stays waits work k d)) ∙ m)
-      step before d (inr q) = before (sym (going_other waits work k i (eqb_false k i q)) ∙ m)
+      step before d (inr q) = before (sym (going_other waits work k i (eqb-false k i q)) ∙ m)
 
   -- they go in record order, so none twice
   pub going_rising :
@@ -78,9 +78,9 @@ module _ (waits : Rule) (work : ℕ → Bool) where
           → get_or (going waits work (suc k)) a 0 < get_or (going waits work (suc k)) b 0
       step before (inl d) =
           let is : List ℕ = going waits work k in
-          let b≤ : b < length is + 1 = rw (going_goes waits work k d, length_append) at b< in
-          rw (going_goes waits work k d, get_or_append is (k ∷ []) 0 a (omega arith))
-          (⊎_elim (λ (inner : b < length is). rw (get_or_append is (k ∷ []) 0 b inner) (before inner))
+          let b≤ : b < length is + 1 = rw (going_goes waits work k d, length-append) at b< in
+          rw (going_goes waits work k d, get_or-append is (k ∷ []) 0 a (omega arith))
+          (⊎_elim (λ (inner : b < length is). rw (get_or-append is (k ∷ []) 0 b inner) (before inner))
           (λ (last : length is ≤ b).
           rw (get_or_at is k [] 0 b (omega arith)) (going_below waits work k (get_or is a 0) (among_at is a (omega arith))).0)
           (lt_or_ge b (length is)))

@@ -5,10 +5,10 @@ use Prim.Native.Nat.{ℕ, zero, suc, ◌+◌, ◌≤◌, ◌<◌}
 use mathlib.Core.Path.{◌≡◌, refl, sym, ◌∙◌, ap, ap₂}
 use mathlib.Core.Bool.{Bool, true, false, not, ◌&&◌, ◌||◌}
 use mathlib.Core.Logic.{◌⊎◌, inl, inr, ⊎_elim}
-use mathlib.Core.List.{List, [], ◌∷◌, ◌++◌, map, append_assoc, append_nil}
+use mathlib.Core.List.{List, [], ◌∷◌, ◌++◌, map, append_assoc, append-nil}
 use native.Mathlib.Omega.{arith}
 use lib.Dec.{eqb, ltb}
-use borrow.Author.Tests.{ltb_true, eq_eqb, eqb_true, eqb_false}
+use borrow.Author.Tests.{ltb-true, eq-eqb, eqb-true, eqb-false}
 use Rattle.trade.specs.Facts.{Facts, step_of}
 use Rattle.trade.specs.Conflict.{conflict, conflicts_with}
 use Rattle.trade.specs.Interference.{one, matrix}
@@ -26,7 +26,7 @@ conflicts_among :
 unfolding among conflicts_with
 conflicts_among d e next other t u [] same = refl
 conflicts_among d e next other t u (h ∷ hs) same =
-    ap₂ (λ (x y : Bool). x || y) (same h (rw (eq_eqb h h refl)))
+    ap₂ (λ (x y : Bool). x || y) (same h (rw (eq-eqb h h refl)))
     (conflicts_among d e next other t u hs (λ j m. same j (or_right (eqb h j) (among hs j) m)))
 
 -- grants that are the same at each flow of a list are the same bytes
@@ -35,7 +35,7 @@ pub grants_among :
 unfolding among grants_of
 grants_among g h [] e = refl
 grants_among g h (i ∷ is) e =
-    ap₂ (λ (x xs : List ℕ). x ++ xs) (e i (rw (eq_eqb i i refl)))
+    ap₂ (λ (x xs : List ℕ). x ++ xs) (e i (rw (eq-eqb i i refl)))
     (grants_among g h is (λ j m. e j (or_right (eqb i j) (among is j) m)))
 
 -- the flows that go are those of the first k, and behind them those that are not
@@ -47,14 +47,14 @@ pub record Behind (waits : Rule) (work : ℕ → Bool) (k n : ℕ) : Type 0 wher
 pub going_behind : (waits : Rule) (work : ℕ → Bool) (k n : ℕ) → k ≤ n → Behind waits work k n
 unfolding among
 going_behind waits work k zero h =
-    let e : zero ≡ k = omega arith in record { rest = []; joined = ap (going waits work) e ∙ sym (append_nil (going waits work k)); past = λ i m. absurd (not_both m refl) }
+    let e : zero ≡ k = omega arith in record { rest = []; joined = ap (going waits work) e ∙ sym (append-nil (going waits work k)); past = λ i m. absurd (not_both m refl) }
 going_behind waits work k (suc n) h =
-    ⊎_elim (λ (l : n < k). let e : suc n ≡ k = omega arith in record { rest = []; joined = ap (going waits work) e ∙ sym (append_nil (going waits work k)); past = λ i m. absurd (not_both m refl) })
+    ⊎_elim (λ (l : n < k). let e : suc n ≡ k = omega arith in record { rest = []; joined = ap (going waits work) e ∙ sym (append-nil (going waits work k)); past = λ i m. absurd (not_both m refl) })
     (λ (l : k ≤ n). step l (going_behind waits work k n l)) (lt_or_ge n k)
   where
     last : (l : k ≤ n) (b : Behind waits work k n) (i : ℕ) → among (b.rest ++ (n ∷ [])) i ≡ true → (eqb n i ≡ true) ⊎ (eqb n i ≡ false) → (k ≤ i) × (i < suc n)
-    last l b i m (inl e) = (omega (arith, eqb_true n i e), omega (arith, eqb_true n i e))
-    last l b i m (inr e) = let old = b.past i (sym (among_more b.rest n i (eqb_false n i e)) ∙ m) in (old.0, omega (arith, old.1))
+    last l b i m (inl e) = (omega (arith, eqb-true n i e), omega (arith, eqb-true n i e))
+    last l b i m (inr e) = let old = b.past i (sym (among_more b.rest n i (eqb-false n i e)) ∙ m) in (old.0, omega (arith, old.1))
 
     step : k ≤ n → Behind waits work k n → Behind waits work k (suc n)
     step l b =
@@ -136,7 +136,7 @@ module _ (k : ℕ) (f g : Facts) (a : Alike k f g) (r q : Releases) (s u : State
 
   left : (i : ℕ) → unfinished f r s i ≡ true → done_now r s i < f.len i
   unfolding unfinished
-  left i w = ltb_true (done_now r s i) (f.len i) w
+  left i w = ltb-true (done_now r s i) (f.len i) w
 
   pub alike_next : (i : ℕ) → i < k → unfinished f r s i ≡ true → next_step f r s i ≡ next_step g q u i
   unfolding next_step

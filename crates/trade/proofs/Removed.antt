@@ -3,7 +3,7 @@
 use Prim.Native.Nat.{ℕ, ◌≤◌, ◌<◌}
 use mathlib.Core.Path.{◌≡◌, ap}
 use native.Mathlib.Omega.{arith}
-use borrow.Author.Tests.{lt_leb}
+use borrow.Author.Tests.{lt-leb}
 use Rattle.trade.specs.Layout.{Sections}
 use Rattle.trade.specs.Facts.{Facts, facts_of}
 use Rattle.trade.specs.Table.{InMemory, used, table_of}
@@ -74,7 +74,7 @@ module _ (r : Removing) (m : InMemory r.table.sections) (p : Passed r.table.sect
       (passed_done no_number
       (passed_append
       (passed_on (λ (q : Removing). q.table) (passed_append (passed_on (λ (t : Tabled). t.sections) p) (passed_more (right_passes r.table right) passed_none)))
-      (passed_more (ap (λ a. a.code) (given_false 15 _ 0 (lt_leb table.flows r.place there))) passed_none)))
+      (passed_more (ap (λ a. a.code) (given_false 15 _ 0 (lt-leb table.flows r.place there))) passed_none)))
 
   -- the table that is left has its facts
   pub left_facts : facts_of (table_of (without_flow r)) ≡ after

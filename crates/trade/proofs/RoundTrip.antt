@@ -4,12 +4,12 @@ use Prim.Native.Nat.{ℕ, suc, ◌+◌, ◌-◌, ◌*◌, ◌/◌, ◌%◌, ◌^
 use mathlib.Core.Path.{◌≡◌, refl, sym, ◌∙◌, ap, ap₂}
 use mathlib.Core.Bool.{not, cond}
 use mathlib.Core.List.{List, [], ◌∷◌, ◌++◌, append_assoc}
-use native.Mathlib.Numerals.{add_one}
+use native.Mathlib.Numerals.{add-one}
 use native.Mathlib.Omega.{arith}
 use lib.Dec.{eqb}
-use lib.ListN.{length, take, drop, replicate, length_append, length_drop, drop_of_length_le}
-use lib.Seq.{take_at, drop_at, drop_cons, get_or_drop}
-use borrow.Author.Tests.{eqb_true, eq_eqb, ne_eqb, le_ltb, not_false}
+use lib.ListN.{length, take, drop, replicate, length-append, length-drop, drop_of_length-le}
+use lib.Seq.{take_at, drop_at, drop-cons, get_or-drop}
+use borrow.Author.Tests.{eqb-true, eq-eqb, ne_eqb, le-ltb, not-false}
 use Rattle.trade.specs.Limits.{most_flows, mark, row_bytes, record_bytes, step_bytes, trailer_bytes}
 use Rattle.trade.specs.Bytes.{Bytes, byte, word, two_bytes, part}
 use Rattle.trade.specs.Layout.{Sections, trailer, rows_distance, records_distance, steps_distance, node_count, flow_count, sections_of}
@@ -46,59 +46,59 @@ module _ (t : Sections) (h : Holds t) (p : Passed t table_rules) where
   unfolding trailer book_of
   trailer_book =
       let front : List ℕ = (used t).rows ++ (used t).records ++ (used t).steps in
-      drop_at front (trailer_of t) (length (book_of t) - trailer_bytes) (omega (arith, length_append front (trailer_of t), length_trailer t))
+      drop_at front (trailer_of t) (length (book_of t) - trailer_bytes) (omega (arith, length-append front (trailer_of t), length_trailer t))
 
   -- every distance fits two bytes
   distance_fits : rows_distance_of t < 2 ^ 16
   unfolding rows_distance_of records_distance_of steps_distance_of
   distance_fits = let r = roomy t (table_valid t p) in omega (arith, r.rows, r.records, r.steps)
 
-  rows_distance_law : rows_distance (book_of t) ≡ rows_distance_of t
+  rows_distance_lem : rows_distance (book_of t) ≡ rows_distance_of t
   unfolding rows_distance word trailer_of two_bytes
-  rows_distance_law = rw trailer_book (omega (arith, distance_fits))
+  rows_distance_lem = rw trailer_book (omega (arith, distance_fits))
 
-  records_distance_law : records_distance (book_of t) ≡ records_distance_of t
+  records_distance_lem : records_distance (book_of t) ≡ records_distance_of t
   unfolding records_distance word trailer_of two_bytes rows_distance_of
-  records_distance_law = rw trailer_book (omega (arith, distance_fits))
+  records_distance_lem = rw trailer_book (omega (arith, distance_fits))
 
-  steps_distance_law : steps_distance (book_of t) ≡ steps_distance_of t
+  steps_distance_lem : steps_distance (book_of t) ≡ steps_distance_of t
   unfolding steps_distance word trailer_of two_bytes rows_distance_of records_distance_of
-  steps_distance_law = rw trailer_book (omega (arith, distance_fits))
+  steps_distance_lem = rw trailer_book (omega (arith, distance_fits))
 
-  node_count_law : node_count (book_of t) ≡ t.nodes
+  node_count_lem : node_count (book_of t) ≡ t.nodes
   unfolding node_count trailer_of two_bytes
-  node_count_law = rw trailer_book
+  node_count_lem = rw trailer_book
 
-  flow_count_law : flow_count (book_of t) ≡ t.flows
+  flow_count_lem : flow_count (book_of t) ≡ t.flows
   unfolding flow_count trailer_of two_bytes
-  flow_count_law = rw trailer_book
+  flow_count_lem = rw trailer_book
 
   -- its sections are the used places
   from_rows : length (book_of t) - rows_distance (book_of t) ≡ 0
-  from_rows = omega (arith, length_book t h, rows_distance_law)
+  from_rows = omega (arith, length_book t h, rows_distance_lem)
 
   from_records : length (book_of t) - records_distance (book_of t) ≡ row_bytes * t.nodes
   unfolding rows_distance_of
-  from_records = omega (arith, length_book t h, records_distance_law)
+  from_records = omega (arith, length_book t h, records_distance_lem)
 
   from_steps : length (book_of t) - steps_distance (book_of t) ≡ row_bytes * t.nodes + record_bytes * t.flows
   unfolding rows_distance_of records_distance_of
-  from_steps = omega (arith, length_book t h, steps_distance_law)
+  from_steps = omega (arith, length_book t h, steps_distance_lem)
 
   to_trailer : steps_distance (book_of t) - trailer_bytes ≡ step_bytes * all_steps (facts_of t)
   unfolding steps_distance_of
-  to_trailer = omega (arith, steps_distance_law)
+  to_trailer = omega (arith, steps_distance_lem)
 
   book_rows : (sections_of (book_of t)).rows ≡ (used t).rows
   unfolding sections_of book_of
   book_rows =
-      ap₂ (λ (at count : ℕ). part at count (book_of t)) from_rows (ap (λ (n : ℕ). row_bytes * n) node_count_law)
+      ap₂ (λ (at count : ℕ). part at count (book_of t)) from_rows (ap (λ (n : ℕ). row_bytes * n) node_count_lem)
       ∙ simp append_assoc (part_between [] (used t).rows _ 0 (row_bytes * t.nodes) refl (length_used_rows t h))
 
   book_records : (sections_of (book_of t)).records ≡ (used t).records
   unfolding sections_of book_of
   book_records =
-      ap₂ (λ (at count : ℕ). part at count (book_of t)) from_records (ap (λ (m : ℕ). record_bytes * m) flow_count_law)
+      ap₂ (λ (at count : ℕ). part at count (book_of t)) from_records (ap (λ (m : ℕ). record_bytes * m) flow_count_lem)
       ∙ simp append_assoc
       (part_between (used t).rows (used t).records _ (row_bytes * t.nodes) (record_bytes * t.flows) (length_used_rows t h)
       (length_used_records t h))
@@ -110,12 +110,12 @@ module _ (t : Sections) (h : Holds t) (p : Passed t table_rules) where
       ∙ rw (append_assoc ((used t).rows ++ (used t).records) (used t).steps (trailer_of t))
       (part_between ((used t).rows ++ (used t).records) (used t).steps (trailer_of t) (row_bytes * t.nodes + record_bytes * t.flows)
       (step_bytes * all_steps (facts_of t))
-      (omega (arith, length_append (used t).rows (used t).records, length_used_rows t h, length_used_records t h))
+      (omega (arith, length-append (used t).rows (used t).records, length_used_rows t h, length_used_records t h))
       (length_used_steps t h))
 
   pub book_sections : sections_of (book_of t) ≡ used t
   unfolding used sections_of
-  book_sections = same_sections (sections_of (book_of t)) (used t) node_count_law flow_count_law book_rows book_records book_steps
+  book_sections = same_sections (sections_of (book_of t)) (used t) node_count_lem flow_count_lem book_rows book_records book_steps
 
   pub book_said : said (book_of t) ≡ facts_of (used t)
   unfolding said
@@ -124,7 +124,7 @@ module _ (t : Sections) (h : Holds t) (p : Passed t table_rules) where
   -- so it passes codes 1 to 8
   book_code1 : (code1 (book_of t)).code ≡ 0
   unfolding code1 rows_distance_of records_distance_of steps_distance_of
-  book_code1 = ap (λ (a : Answer). a.code) (given_false 1 _ 0 (le_ltb (length (book_of t)) trailer_bytes (omega (arith, length_book t h))))
+  book_code1 = ap (λ (a : Answer). a.code) (given_false 1 _ 0 (le-ltb (length (book_of t)) trailer_bytes (omega (arith, length_book t h))))
 
   book_code2 : (code2 (book_of t)).code ≡ 0
   unfolding code2 given trailer_of two_bytes
@@ -136,25 +136,25 @@ module _ (t : Sections) (h : Holds t) (p : Passed t table_rules) where
       ap (λ (a : Answer). a.code)
       (given_false 4 _ 0
       (rw (
-        rows_distance_law,
-        records_distance_law,
-        steps_distance_law,
-        node_count_law,
-        flow_count_law,
-        eq_eqb (rows_distance_of t) (records_distance_of t + row_bytes * t.nodes) refl,
-        eq_eqb (records_distance_of t) (steps_distance_of t + record_bytes * t.flows) refl,
-        le_ltb (steps_distance_of t) trailer_bytes (omega arith),
+        rows_distance_lem,
+        records_distance_lem,
+        steps_distance_lem,
+        node_count_lem,
+        flow_count_lem,
+        eq-eqb (rows_distance_of t) (records_distance_of t + row_bytes * t.nodes) refl,
+        eq-eqb (records_distance_of t) (steps_distance_of t + record_bytes * t.flows) refl,
+        le-ltb (steps_distance_of t) trailer_bytes (omega arith),
         ne_eqb (steps_distance_of t % 2) 1 (λ e. omega arith),
-        le_ltb (length (book_of t)) (rows_distance_of t) (omega (arith, length_book t h)),
+        le-ltb (length (book_of t)) (rows_distance_of t) (omega (arith, length_book t h)),
       )))
 
   book_code7 : (code7 (book_of t)).code ≡ 0
   unfolding code7 steps_distance_of
   book_code7 =
       let e : steps_distance (book_of t) ≡ steps_distance_of (sections_of (book_of t))
-      = steps_distance_law ∙ rw (book_sections, ← same_all_steps t (used t) (used_same t)) in
+      = steps_distance_lem ∙ rw (book_sections, ← same_all_steps t (used t) (used_same t)) in
       ap (λ (a : Answer). a.code)
-      (given_false 7 (not (eqb (steps_distance (book_of t)) (steps_distance_of (sections_of (book_of t))))) 0 (rw (eq_eqb _ _ e)))
+      (given_false 7 (not (eqb (steps_distance (book_of t)) (steps_distance_of (sections_of (book_of t))))) 0 (rw (eq-eqb _ _ e)))
 
   book_rule : (code : Facts → Answer) → (code (facts_of (used t))).code ≡ 0 → (code (said (book_of t))).code ≡ 0
   book_rule code e = rw book_said e
@@ -250,7 +250,7 @@ two_bytes_word l at b =
 next_two : (l : List ℕ) (at : ℕ) → at + 1 < length l → byte l at ∷ byte l (at + 1) ∷ drop (at + 2) l ≡ drop at l
 next_two l at h =
     let e : ◌≡◌ {A = ℕ} (at + 2) (suc (suc at)) = omega arith in
-    rw (drop_cons l at 0 (omega arith), add_one at, drop_cons l (suc at) 0 (omega arith), e)
+    rw (drop-cons l at 0 (omega arith), add-one at, drop-cons l (suc at) 0 (omega arith), e)
 
 two_by_two :
     (l : List ℕ)
@@ -260,7 +260,7 @@ two_by_two :
 two_by_two l n b =
     rw (two_bytes_word l 0 b, two_bytes_word l 2 b, two_bytes_word l 4 b)
     (rw (
-      ← drop_of_length_le l {i = trailer_bytes} (omega arith),
+      ← drop_of_length-le l {i = trailer_bytes} (omega arith),
       next_two l 8 (omega arith),
       next_two l 6 (omega arith),
       next_two l 4 (omega arith),
@@ -285,8 +285,8 @@ module _ (b : List ℕ) (p : Passed b book_rules) where
   marked : (byte (trailer b) 8 ≡ byte mark 0) × (byte (trailer b) 9 ≡ byte mark 1)
   unfolding book_rules code2
   marked =
-      let (first, second) = and_true _ _ (not_false _ (given_passed 1 _ 0 (passed_head (passed_tail p)))) in
-      (eqb_true _ _ first, eqb_true _ _ second)
+      let (first, second) = and_true _ _ (not-false _ (given_passed 1 _ 0 (passed_head (passed_tail p)))) in
+      (eqb-true _ _ first, eqb-true _ _ second)
 
   steps_back : steps_distance_of (sections_of b) ≡ word (trailer b) 4
   unfolding steps_distance
@@ -302,17 +302,17 @@ module _ (b : List ℕ) (p : Passed b book_rules) where
 
   trailer_length : length (trailer b) ≡ trailer_bytes
   unfolding trailer
-  trailer_length = omega (arith, length_drop (length b - trailer_bytes) b, (passed_framed b p).trailer)
+  trailer_length = omega (arith, length-drop (length b - trailer_bytes) b, (passed_framed b p).trailer)
 
-  trailer_bytes_law : Bytes b → Bytes (trailer b)
+  trailer_bytes_lem : Bytes b → Bytes (trailer b)
   unfolding trailer
-  trailer_bytes_law bytes i = rw (get_or_drop (length b - trailer_bytes) b i 0) (bytes _)
+  trailer_bytes_lem bytes i = rw (get_or-drop (length b - trailer_bytes) b i 0) (bytes _)
 
   trailer_back : Bytes b → trailer_of (sections_of b) ≡ trailer b
   unfolding trailer_of sections_of node_count flow_count
   trailer_back bytes =
       rw (rows_back, records_back, steps_back, ← marked.0, ← marked.1)
-      (two_by_two (trailer b) trailer_length (trailer_bytes_law bytes))
+      (two_by_two (trailer b) trailer_length (trailer_bytes_lem bytes))
 
   -- so it is written as the book's bytes, which are the last part of the slice
   pub read_book : Bytes b → book_of (table_of (sections_of b)) ≡ drop (length b - rows_distance b) b

@@ -5,11 +5,11 @@ use Prim.Native.Nat.{ℕ, zero, suc, ◌*◌, ◌≤◌, ◌<◌}
 use mathlib.Core.Path.{◌≡◌, refl, sym, ◌∙◌, ap}
 use mathlib.Core.Bool.{Bool, true, false, not, ◌&&◌, ◌||◌}
 use mathlib.Core.Logic.{◌⊎◌, inl, inr, ⊎_elim}
-use mathlib.Core.List.{List, [], ◌∷◌, ◌++◌, map, map_append, append_assoc}
+use mathlib.Core.List.{List, [], ◌∷◌, ◌++◌, map, map-append, append_assoc}
 use native.Mathlib.Omega.{arith}
 use lib.Dec.{eqb}
-use lib.ListN.{length, length_append}
-use borrow.Author.Tests.{eqb_true, eqb_false, eq_eqb, ne_eqb, not_true}
+use lib.ListN.{length, length-append}
+use borrow.Author.Tests.{eqb-true, eqb-false, eq-eqb, ne_eqb, not-true}
 use Rattle.trade.specs.Limits.{grant_bytes}
 use Rattle.trade.specs.Facts.{Facts}
 use Rattle.trade.specs.Conflict.{conflict, conflicts_with, conflict_free}
@@ -21,7 +21,7 @@ use Rattle.trade.proofs.Conflict.{free_snoc}
 -- who is among a list with one more at its end
 pub among_last : (hs : List ℕ) (k : ℕ) → among (hs ++ (k ∷ [])) k ≡ true
 unfolding among
-among_last [] k = rw (eq_eqb k k refl)
+among_last [] k = rw (eq-eqb k k refl)
 among_last (h ∷ hs) k = ⊎_elim (λ (e : eqb h k ≡ true). rw e) (λ (e : eqb h k ≡ false). rw e (among_last hs k)) (bool_cases (eqb h k))
 
 pub among_more : (hs : List ℕ) (k i : ℕ) → (k ≡ i → ⊥) → among (hs ++ (k ∷ [])) i ≡ among hs i
@@ -58,13 +58,13 @@ going_below waits work (suc k) i e =
         → (eqb k i ≡ true) ⊎ (eqb k i ≡ false)
         → (i < suc k) × (work i ≡ true)
     step before (inl d) (inl q) =
-        let w : k ≡ i = eqb_true k i q in
+        let w : k ≡ i = eqb-true k i q in
         (omega arith, rw (← w) (and_true (work k) (not (waits (going waits work k) k)) d).0)
     step before (inr d) (inl q) =
         let r = before (sym (ap (λ (hs : List ℕ). among hs i) (going_stays waits work k d)) ∙ e) in
         (omega (arith, r.0), r.1)
     step before d (inr q) =
-        let r = before (sym (going_other waits work k i (eqb_false k i q)) ∙ e) in
+        let r = before (sym (going_other waits work k i (eqb-false k i q)) ∙ e) in
         (omega (arith, r.0), r.1)
 
 -- one of a list whose transmission conflicts
@@ -81,7 +81,7 @@ conflicts_one disturbs next (x ∷ hs) t e =
         (conflicts_with disturbs (map next hs) t ≡ true → (h : ℕ) × (among hs h ≡ true) × (conflict disturbs (next h) t ≡ true))
         → (conflict disturbs (next x) t ≡ true) ⊎ (conflicts_with disturbs (map next hs) t ≡ true)
         → (h : ℕ) × ((eqb x h || among hs h) ≡ true) × (conflict disturbs (next h) t ≡ true)
-    step rest (inl q) = (x, ap (λ (b : Bool). b || among hs x) (eq_eqb x x refl), q)
+    step rest (inl q) = (x, ap (λ (b : Bool). b || among hs x) (eq-eqb x x refl), q)
     step rest (inr q) = let r = rest q in (r.0, or_right (eqb x r.0) (among hs r.0) r.1, r.2)
 
 -- a flow with work is left out only if the rule had it wait for those above it that go
@@ -101,13 +101,13 @@ left_out waits work (suc k) i l w n =
         → (waits (going waits work k) k ≡ true) ⊎ (waits (going waits work k) k ≡ false)
         → (eqb k i ≡ true) ⊎ (eqb k i ≡ false)
         → waits (going waits work i) i ≡ true
-    step before (inl d) (inl q) = let e : k ≡ i = eqb_true k i q in rw e at d
+    step before (inl d) (inl q) = let e : k ≡ i = eqb-true k i q in rw e at d
     step before (inr d) (inl q) =
-        let e : k ≡ i = eqb_true k i q in
+        let e : k ≡ i = eqb-true k i q in
         let both : (work k && not (waits (going waits work k) k)) ≡ true = rw (d, e, w) in
         absurd (not_both (rw (← e, going_goes waits work k both) (among_last (going waits work k) k)) n)
     step before d (inr q) =
-        before (omega (arith, eqb_false k i q)) (sym (going_other waits work k i (eqb_false k i q)) ∙ n)
+        before (omega (arith, eqb-false k i q)) (sym (going_other waits work k i (eqb-false k i q)) ∙ n)
 
 -- what the first flows do stands, however many follow
 pub going_stands : (waits : Rule) (work : ℕ → Bool) (j k i : ℕ) → i < j → j ≤ k → among (going waits work k) i ≡ among (going waits work j) i
@@ -135,8 +135,8 @@ going_free disturbs next waits work refuses (suc k) =
         → ((work k && not (waits (going waits work k) k)) ≡ true) ⊎ ((work k && not (waits (going waits work k) k)) ≡ false)
         → conflict_free disturbs (map next (going waits work (suc k))) ≡ true
     step before (inl d) =
-        let free = refuses (going waits work k) k (not_true (waits (going waits work k) k) (and_true (work k) (not (waits (going waits work k) k)) d).1) in
-        rw (d, map_append next (going waits work k) (k ∷ [])) (free_snoc disturbs (map next (going waits work k)) (next k) before free)
+        let free = refuses (going waits work k) k (not-true (waits (going waits work k) k) (and_true (work k) (not (waits (going waits work k) k)) d).1) in
+        rw (d, map-append next (going waits work k) (k ∷ [])) (free_snoc disturbs (map next (going waits work k)) (next k) before free)
     step before (inr d) = rw d before
 
 -- a rule of waiting that refuses conflicts: it has a flow wait whose next step conflicts with a grant already made
@@ -204,4 +204,4 @@ pub length_grants :
 unfolding grants_of
 length_grants grant nine [] = refl
 length_grants grant nine (i ∷ is) =
-    omega (arith, length_append (grant i) (grants_of grant is), nine i, length_grants grant nine is)
+    omega (arith, length-append (grant i) (grants_of grant is), nine i, length_grants grant nine is)

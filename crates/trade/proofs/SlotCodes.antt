@@ -6,7 +6,7 @@ use mathlib.Core.Bool.{true, false, not, ◌&&◌, ◌||◌}
 use mathlib.Core.Logic.{⊎_elim}
 use native.Mathlib.Omega.{arith}
 use lib.Dec.{eqb, ltb}
-use borrow.Author.Tests.{eqb_true, eqb_false, ltb_false, lt_ltb, not_false}
+use borrow.Author.Tests.{eqb-true, eqb-false, ltb-false, lt-ltb, not-false}
 use Rattle.trade.specs.Limits.{most_flows, end_of_clock}
 use Rattle.trade.specs.Facts.{Facts}
 use Rattle.trade.specs.Slot.{State, Releases, done_now}
@@ -28,26 +28,26 @@ module _ (f : Facts) (r : Releases) (s : State) (formed : (code10 f r s).code �
 
   pub slot_in_clock : (code12 s).code ≡ 0 → s.slot < end_of_clock
   unfolding code12
-  slot_in_clock e = omega (arith, ltb_false end_of_clock s.slot in_clock, eqb_false s.slot end_of_clock (given_passed 11 _ 0 e))
+  slot_in_clock e = omega (arith, ltb-false end_of_clock s.slot in_clock, eqb-false s.slot end_of_clock (given_passed 11 _ 0 e))
 
   module _ (few : f.flows ≤ most_flows) (i : ℕ) (listed : i < f.flows) where
     short : ltb (f.len i) (s.done i) ≡ false
     unfolding bad_place
-    short = (or_false _ (not (r.begun i) && not (eqb (s.done i) (f.len i))) (rw (lt_ltb i f.flows listed) at (good_place i (omega arith)))).0
+    short = (or_false _ (not (r.begun i) && not (eqb (s.done i) (f.len i))) (rw (lt-ltb i f.flows listed) at (good_place i (omega arith)))).0
 
     idle : (not (r.begun i) && not (eqb (s.done i) (f.len i))) ≡ false
     unfolding bad_place
-    idle = (or_false (ltb (f.len i) (s.done i)) _ (rw (lt_ltb i f.flows listed) at (good_place i (omega arith)))).1
+    idle = (or_false (ltb (f.len i) (s.done i)) _ (rw (lt-ltb i f.flows listed) at (good_place i (omega arith)))).1
 
     -- after the releases too
     pub done_within : done_now r s i ≤ f.len i
     unfolding done_now
     done_within =
-        ⊎_elim (λ (e : r.due i ≡ true). rw e (omega arith)) (λ (e : r.due i ≡ false). rw e (ltb_false (f.len i) (s.done i) short))
+        ⊎_elim (λ (e : r.due i ≡ true). rw e (omega arith)) (λ (e : r.due i ≡ false). rw e (ltb-false (f.len i) (s.done i) short))
         (bool_cases (r.due i))
 
     pub idle_before : (r.due i || r.begun i) ≡ false → done_now r s i ≡ f.len i
     unfolding done_now
     idle_before e =
         let (quiet, early) = or_false (r.due i) (r.begun i) e in
-        rw quiet (eqb_true (s.done i) (f.len i) (not_false (eqb (s.done i) (f.len i)) (rw early at idle)))
+        rw quiet (eqb-true (s.done i) (f.len i) (not-false (eqb (s.done i) (f.len i)) (rw early at idle)))

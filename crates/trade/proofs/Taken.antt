@@ -4,8 +4,8 @@ use Prim.Native.Nat.{ℕ, zero, suc, ◌+◌, ◌-◌, ◌*◌, ◌≤◌, ◌<�
 use mathlib.Core.Path.{◌≡◌, refl}
 use mathlib.Core.Logic.{⊎_elim}
 use native.Mathlib.Omega.{arith}
-use native.Mathlib.Nat.{add_le_add}
-use borrow.Author.Tests.{lt_ltb, le_ltb}
+use native.Mathlib.Nat.{add-le-add}
+use borrow.Author.Tests.{lt-ltb, le-ltb}
 use Rattle.trade.specs.First.{sum_to}
 use Rattle.trade.specs.Layout.{Sections, field}
 use Rattle.trade.specs.Facts.{Facts, facts_of}
@@ -25,11 +25,11 @@ use Rattle.trade.proofs.Moved.{SamePlan, interference_moved, same_disturbs, plan
 -- WHERE a flow stood: in the same order, above the place where it stands, from there on one place further
 pub out_below : (place i : ℕ) → i < place → before_out place i ≡ i
 unfolding before_out
-out_below place i l = rw (lt_ltb i place l) refl
+out_below place i l = rw (lt-ltb i place l) refl
 
 pub out_past : (place i : ℕ) → place ≤ i → before_out place i ≡ suc i
 unfolding before_out
-out_past place i l = rw (le_ltb i place l) refl
+out_past place i l = rw (le-ltb i place l) refl
 
 pub out_order : (place h l : ℕ) → h < l → before_out place h < before_out place l
 out_order place h l p =
@@ -99,7 +99,7 @@ module _ (place : ℕ) (f g : Facts) (t : TakenOut place f g) (periods : (i : �
       needs_less : (R : ℕ) → slots_needed f μ l R ≤ slots_needed g ν (was l) R
       unfolding slots_needed
       needs_less R =
-          add_le_add (omega (arith, (t.plan l l<).len))
+          add-le-add (omega (arith, (t.plan l l<).len))
           (omega (
             arith,
             sum_mono (λ h. instances R (μ.carry h) (f.period h) * μ.cost l h) (λ h. term R (was h)) l

@@ -2,11 +2,11 @@
 -- Valid. Assumes nothing.
 use Prim.Native.Nat.{ℕ, zero, suc, ◌+◌, ◌-◌, ◌≤◌, ◌<◌}
 use mathlib.Core.Path.{◌≡◌, refl, sym, ◌∙◌, ap}
-use mathlib.Core.Bool.{and_false, Bool, true, false, not, ◌&&◌, ◌||◌}
+use mathlib.Core.Bool.{and-false, Bool, true, false, not, ◌&&◌, ◌||◌}
 use mathlib.Core.Logic.{⊎_elim}
 use native.Mathlib.Omega.{arith}
 use lib.Dec.{eqb, leb}
-use borrow.Author.Tests.{eq_eqb, ne_eqb, not_false}
+use borrow.Author.Tests.{eq-eqb, ne_eqb, not-false}
 use Rattle.trade.specs.First.{some, sum_to}
 use Rattle.trade.specs.Facts.{Facts, first_step, all_steps, step_of}
 use Rattle.trade.specs.Interference.{matrix}
@@ -118,19 +118,19 @@ module _ (place : ℕ) (f g : Facts) (t : TakenOut place f g) where
     unfolding first_of_plan
     begins e =
         let first : some (λ k. eqb (first_step f k) (first_step f i + j)) f.flows ≡ true =
-        some_intro (λ k. eqb (first_step f k) (first_step f i + j)) f.flows i i< (eq_eqb (first_step f i) (first_step f i + j) (omega arith)) in
+        some_intro (λ k. eqb (first_step f k) (first_step f i + j)) f.flows i i< (eq-eqb (first_step f i) (first_step f i + j) (omega arith)) in
         rw first refl
 
-    goes_on_law : 0 < j → joined g stood ≡ false → joined f (first_step f i + j) ≡ false
+    goes_on_lem : 0 < j → joined g stood ≡ false → joined f (first_step f i + j) ≡ false
     unfolding step_of
-    goes_on_law p e =
+    goes_on_lem p e =
         let back : first_step f i + j - 1 ≡ first_step f i + (j - 1) = omega arith in
         let behind : first_step g (was i) + (j - 1) ≡ stood - 1 = omega arith in
         let before : f.step (first_step f i + j - 1) ≡ g.step (stood - 1) =
         ap f.step back ∙ (t.plan i i<).steps (j - 1) (omega arith) ∙ ap g.step behind in
         let follows : (repeats (g.step stood) (g.step (stood - 1)) || goes_on (g.step stood) (g.step (stood - 1))) ≡ true =
-        not_false _ (rw (inside p) at e) in
-        rw (step_is, before, follows) (and_false (not (first_of_plan f (first_step f i + j))))
+        not-false _ (rw (inside p) at e) in
+        rw (step_is, before, follows) (and-false (not (first_of_plan f (first_step f i + j))))
 
     good_step : bad_step f (first_step f i + j) ≡ false
     unfolding bad_step
@@ -139,7 +139,7 @@ module _ (place : ℕ) (f g : Facts) (t : TakenOut place f g) where
         let (e₁, apart) = or_false (leb g.nodes (g.step stood).sender.0 || leb g.nodes (g.step stood).receiver.0) (eqb (g.step stood).sender.0 (g.step stood).receiver.0) e₂ in
         let (sender, receiver) = or_false (leb g.nodes (g.step stood).sender.0) (leb g.nodes (g.step stood).receiver.0) e₁ in
         let still : joined f (first_step f i + j) ≡ false =
-        ⊎_elim (λ (p : 0 < j). goes_on_law p joins) (λ (p : j ≤ 0). begins (omega arith)) (lt_or_ge 0 j) in
+        ⊎_elim (λ (p : 0 < j). goes_on_lem p joins) (λ (p : j ≤ 0). begins (omega arith)) (lt_or_ge 0 j) in
         rw (still, step_is, t.nodes, sender, receiver, apart) refl
 
   pub eight_passes : (code8 g).code ≡ 0 → (code8 f).code ≡ 0

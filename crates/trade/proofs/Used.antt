@@ -5,8 +5,8 @@ use mathlib.Core.Path.{◌≡◌, refl, sym, ◌∙◌, ap, ap₂}
 use mathlib.Core.Logic.{⊎_elim}
 use mathlib.Core.List.{List, ◌++◌}
 use native.Mathlib.Omega.{arith}
-use lib.ListN.{length, take, length_append, length_take, get_or_eq_default}
-use lib.Seq.{length_take_le, take_take, take_all, take_at, get_or_take, ext_get_or}
+use lib.ListN.{length, take, length-append, length-take, get_or-eq_default}
+use lib.Seq.{length-take-le, take-take, take_all, take_at, get_or-take, ext_get_or}
 use Rattle.trade.specs.Limits.{most_steps, row_bytes, record_bytes, step_bytes, trailer_bytes}
 use Rattle.trade.specs.Bytes.{byte, word, two_bytes, bit, padded}
 use Rattle.trade.specs.Layout.{Sections, sections, field}
@@ -35,7 +35,7 @@ pub same_sections :
 same_sections s t n m rows records steps = λ i. record { nodes = n i; flows = m i; rows = rows i; records = records i; steps = steps i }
 
 take_twice : (n : ℕ) (l : List ℕ) → take n (take n l) ≡ take n l
-take_twice n l = take_take n n l (omega arith)
+take_twice n l = take-take n n l (omega arith)
 
 -- the used places by themselves, and with zeros behind them, say the same
 module _ (s : Sections) where
@@ -45,9 +45,9 @@ module _ (s : Sections) where
       record {
         nodes = refl;
         flows = refl;
-        rows = λ i h. sym (get_or_take _ s.rows i 0 h);
-        records = λ i h. sym (get_or_take _ s.records i 0 h);
-        steps = λ i h. sym (get_or_take _ s.steps i 0 h);
+        rows = λ i h. sym (get_or-take _ s.rows i 0 h);
+        records = λ i h. sym (get_or-take _ s.records i 0 h);
+        steps = λ i h. sym (get_or-take _ s.steps i 0 h);
       }
 
   pub table_same : SameUsed s (table_of s)
@@ -56,9 +56,9 @@ module _ (s : Sections) where
       record {
         nodes = refl;
         flows = refl;
-        rows = λ i h. sym (byte_padded rows_room (used s).rows i ∙ get_or_take _ s.rows i 0 h);
-        records = λ i h. sym (byte_padded records_room (used s).records i ∙ get_or_take _ s.records i 0 h);
-        steps = λ i h. sym (byte_padded steps_room (used s).steps i ∙ get_or_take _ s.steps i 0 h);
+        rows = λ i h. sym (byte_padded rows_room (used s).rows i ∙ get_or-take _ s.rows i 0 h);
+        records = λ i h. sym (byte_padded records_room (used s).records i ∙ get_or-take _ s.records i 0 h);
+        steps = λ i h. sym (byte_padded steps_room (used s).steps i ∙ get_or-take _ s.steps i 0 h);
       }
 
   used_steps : step_bytes * all_steps (facts_of (used s)) ≡ step_bytes * all_steps (facts_of s)
@@ -160,15 +160,15 @@ pub record Holds (s : Sections) : Type 0 where
 module _ (s : Sections) (h : Holds s) where
   pub length_used_rows : length (used s).rows ≡ row_bytes * s.nodes
   unfolding used
-  length_used_rows = length_take_le _ s.rows h.rows
+  length_used_rows = length-take-le _ s.rows h.rows
 
   pub length_used_records : length (used s).records ≡ record_bytes * s.flows
   unfolding used
-  length_used_records = length_take_le _ s.records h.records
+  length_used_records = length-take-le _ s.records h.records
 
   pub length_used_steps : length (used s).steps ≡ step_bytes * all_steps (facts_of s)
   unfolding used
-  length_used_steps = length_take_le _ s.steps h.steps
+  length_used_steps = length-take-le _ s.steps h.steps
 
   -- and so they are all that the used places have
   pub used_full : Full (used s)
@@ -178,7 +178,7 @@ module _ (s : Sections) (h : Holds s) where
   -- and of its book that length is the rows' distance
   pub length_book : length (book_of s) ≡ rows_distance_of s
   unfolding book_of rows_distance_of records_distance_of steps_distance_of
-  length_book = simp length_append (omega (arith, length_used_rows, length_used_records, length_used_steps, length_trailer s))
+  length_book = simp length-append (omega (arith, length_used_rows, length_used_records, length_used_steps, length_trailer s))
 
   -- the zeros behind them are not used
   pub used_table : used (table_of s) ≡ used s
@@ -214,29 +214,29 @@ in_memory_holds s m r = record { rows = omega arith; records = omega arith; step
 zeros_stay : (count n : ℕ) (l : List ℕ) → n ≤ count → padded count (take n (padded count (take n l))) ≡ padded count (take n l)
 zeros_stay count n l h =
     ext_get_or 0 (padded count again) (padded count (take n l))
-    (length_padded count again (omega (arith, length_take n (padded count (take n l))))
-    ∙ sym (length_padded count (take n l) (omega (arith, length_take n l))))
+    (length_padded count again (omega (arith, length-take n (padded count (take n l))))
+    ∙ sym (length_padded count (take n l) (omega (arith, length-take n l))))
     (λ i within. byte_padded count again i ∙ ⊎_elim (used_byte i) (unused_byte i) (lt_or_ge i n) ∙ sym (byte_padded count (take n l) i))
   where
     again : List ℕ
     again = take n (padded count (take n l))
 
     used_byte : (i : ℕ) → i < n → byte again i ≡ byte (take n l) i
-    used_byte i i< = get_or_take n (padded count (take n l)) i 0 i< ∙ byte_padded count (take n l) i
+    used_byte i i< = get_or-take n (padded count (take n l)) i 0 i< ∙ byte_padded count (take n l) i
 
     unused_byte : (i : ℕ) → n ≤ i → byte again i ≡ byte (take n l) i
     unused_byte i n≤ =
-        get_or_eq_default again 0 (omega (arith, length_take n (padded count (take n l))))
-        ∙ sym (get_or_eq_default (take n l) 0 (omega (arith, length_take n l)))
+        get_or-eq_default again 0 (omega (arith, length-take n (padded count (take n l))))
+        ∙ sym (get_or-eq_default (take n l) 0 (omega (arith, length-take n l)))
 
 module _ (s : Sections) (r : Roomy s) where
   pub table_in_memory : InMemory (table_of s)
   unfolding table_of used
   table_in_memory =
       record {
-        rows = length_padded rows_room (used s).rows (omega (arith, length_take (row_bytes * s.nodes) s.rows));
-        records = length_padded records_room (used s).records (omega (arith, length_take (record_bytes * s.flows) s.records));
-        steps = length_padded steps_room (used s).steps (omega (arith, length_take (step_bytes * all_steps (facts_of s)) s.steps));
+        rows = length_padded rows_room (used s).rows (omega (arith, length-take (row_bytes * s.nodes) s.rows));
+        records = length_padded records_room (used s).records (omega (arith, length-take (record_bytes * s.flows) s.records));
+        steps = length_padded steps_room (used s).steps (omega (arith, length-take (step_bytes * all_steps (facts_of s)) s.steps));
       }
 
   pub table_table : table_of (table_of s) ≡ table_of s

@@ -7,7 +7,7 @@ use mathlib.Core.Logic.{⊎_elim}
 use mathlib.Core.List.{List}
 use native.Mathlib.Omega.{arith}
 use lib.Dec.{eqb, ltb}
-use borrow.Author.Tests.{leb_false, ltb_false, le_ltb, eqb_false, ne_eqb}
+use borrow.Author.Tests.{leb-false, ltb-false, le-ltb, eqb-false, ne_eqb}
 use Rattle.trade.specs.Limits.{most_nodes, most_flows, most_id, most_phase, most_period, most_steps}
 use Rattle.trade.specs.Layout.{Sections}
 use Rattle.trade.specs.Facts.{Facts, facts_of, said, first_step, all_steps}
@@ -30,11 +30,11 @@ pub outside_false : (low high v : ℕ) → outside low high v ≡ false → With
 unfolding outside
 outside_false low high v e =
     let (l, h) = or_false (ltb v low) (ltb high v) e in
-    record { least = ltb_false v low l; most = ltb_false high v h }
+    record { least = ltb-false v low l; most = ltb-false high v h }
 
 within_inside : (low high v : ℕ) → Within low high v → outside low high v ≡ false
 unfolding outside
-within_inside low high v w = rw (le_ltb v low w.least, le_ltb high v w.most)
+within_inside low high v w = rw (le-ltb v low w.least, le-ltb high v w.most)
 
 -- counts within their limits pass code 3
 pub code3_passes : (f : Facts) → Within 1 most_nodes f.nodes → Within 0 most_flows f.flows → (code3 f).code ≡ 0
@@ -62,7 +62,7 @@ sound f i e =
     let (id, new) = or_false _ _ e₂ in
     record {
       id = outside_false _ _ _ id;
-      new = λ j h. eqb_false _ _ (some_false (λ k. eqb (f.id k) (f.id i)) i new j h);
+      new = λ j h. eqb-false _ _ (some_false (λ k. eqb (f.id k) (f.id i)) i new j h);
       phase = outside_false _ _ _ phase;
       period = outside_false _ _ _ period;
       deadline = outside_false _ _ _ deadline;
@@ -121,9 +121,9 @@ placed f e k h =
     let (e₁, apart) = or_false _ _ e₂ in
     let (sender, receiver) = or_false _ _ e₁ in
     record {
-      sender = leb_false _ _ sender;
-      receiver = leb_false _ _ receiver;
-      apart = eqb_false _ _ apart;
+      sender = leb-false _ _ sender;
+      receiver = leb-false _ _ receiver;
+      apart = eqb-false _ _ apart;
     }
 
 pub table_placed : (t : Sections) → Passed t table_rules → (k : ℕ) → k < all_steps (facts_of t) → Placed (facts_of t).nodes ((facts_of t).step k)

@@ -4,9 +4,9 @@ use Prim.Native.Nat.{ℕ, ◌+◌, ◌-◌, ◌*◌, ◌≤◌}
 use mathlib.Core.Path.{◌≡◌, refl, sym, ◌∙◌, ap}
 use mathlib.Core.List.{List, ◌++◌, append_assoc}
 use native.Mathlib.Omega.{arith}
-use lib.ListN.{length, take, drop, length_drop, take_append_drop}
-use lib.Seq.{length_take_le, take_all, drop_drop}
-use borrow.Author.Tests.{ltb_false, eqb_true, not_false}
+use lib.ListN.{length, take, drop, length-drop, take-append-drop}
+use lib.Seq.{length-take-le, take_all, drop-drop}
+use borrow.Author.Tests.{ltb-false, eqb-true, not-false}
 use Rattle.trade.specs.Limits.{row_bytes, record_bytes, step_bytes, trailer_bytes}
 use Rattle.trade.specs.Bytes.{part}
 use Rattle.trade.specs.Layout.{trailer, rows_distance, records_distance, steps_distance, node_count, flow_count, sections_of}
@@ -37,30 +37,30 @@ framed b e1 e4 =
     let q = or_false _ _ p.0 in
     let r = or_false _ _ q.0 in
     let s = or_false _ _ r.0 in
-    let rows : rows_distance b ≡ records_distance b + row_bytes * node_count b = eqb_true _ _ (not_false _ s.0) in
-    let records : records_distance b ≡ steps_distance b + record_bytes * flow_count b = eqb_true _ _ (not_false _ s.1) in
-    let within : rows_distance b ≤ length b = ltb_false _ _ p.1 in
+    let rows : rows_distance b ≡ records_distance b + row_bytes * node_count b = eqb-true _ _ (not-false _ s.0) in
+    let records : records_distance b ≡ steps_distance b + record_bytes * flow_count b = eqb-true _ _ (not-false _ s.1) in
+    let within : rows_distance b ≤ length b = ltb-false _ _ p.1 in
     record {
-      trailer = ltb_false _ _ (given_passed 0 _ 0 e1);
+      trailer = ltb-false _ _ (given_passed 0 _ 0 e1);
       rows = within;
       records = omega arith;
       steps = omega arith;
       nodes = rows;
       flows = records;
-      plans = ltb_false _ _ r.1;
+      plans = ltb-false _ _ r.1;
     }
 
 -- a part, and what lies behind it
 length_part : (at count : ℕ) (b : List ℕ) → at + count ≤ length b → length (part at count b) ≡ count
 unfolding part
-length_part at count b h = length_take_le count (drop at b) (omega (arith, length_drop at b))
+length_part at count b h = length-take-le count (drop at b) (omega (arith, length-drop at b))
 
 part_next : (at count next : ℕ) (b : List ℕ) → at + count ≡ next → part at count b ++ drop next b ≡ drop at b
 unfolding part
 part_next at count next b e =
     ap (λ (n : ℕ). take count (drop at b) ++ drop n b) (sym e)
-    ∙ ap (λ (l : List ℕ). take count (drop at b) ++ l) (sym (drop_drop count at b))
-    ∙ take_append_drop count (drop at b)
+    ∙ ap (λ (l : List ℕ). take count (drop at b) ++ l) (sym (drop-drop count at b))
+    ∙ take-append-drop count (drop at b)
 
 module _ (b : List ℕ) (p : Passed b book_rules) where
   pub passed_framed : Framed b
@@ -71,8 +71,8 @@ module _ (b : List ℕ) (p : Passed b book_rules) where
   pub passed_steps : steps_distance b ≡ steps_distance_of (sections_of b)
   unfolding book_rules code7
   passed_steps =
-      eqb_true _ _
-      (not_false _ (given_passed 6 _ 0 (passed_head (passed_tail (passed_tail (passed_tail (passed_tail (passed_tail (passed_tail p)))))))))
+      eqb-true _ _
+      (not-false _ (given_passed 6 _ 0 (passed_head (passed_tail (passed_tail (passed_tail (passed_tail (passed_tail (passed_tail p)))))))))
 
   -- the sections are as long as what they hold
   pub rows_whole : length (sections_of b).rows ≡ row_bytes * (sections_of b).nodes

@@ -5,10 +5,10 @@ use mathlib.Core.Path.{◌≡◌, refl, ap, ap₂}
 use mathlib.Core.Bool.{true, false, ◌&&◌, ◌||◌}
 use mathlib.Core.List.{List}
 use mathlib.Core.Logic.{⊎_elim}
-use native.Mathlib.Nat.{zero_mod}
+use native.Mathlib.Nat.{zero-mod}
 use native.Mathlib.Omega.{arith}
 use lib.Dec.{eqb, leb}
-use borrow.Author.Tests.{lt_ltb, le_ltb, lt_leb, le_leb}
+use borrow.Author.Tests.{lt-ltb, le-ltb, lt-leb, le-leb}
 use Rattle.trade.specs.First.{first}
 use Rattle.trade.specs.Facts.{Facts, step_of}
 use Rattle.trade.specs.Conflict.{conflict}
@@ -24,12 +24,12 @@ pub begun_is :
 unfolding released
 begun_is f firsts slot i =
     let first : ℕ = firsts i in
-    ⊎_elim (λ (l : first < slot). rw (lt_ltb first slot l, le_leb first slot (omega arith)) (or_right (eqb ((slot - first) % f.period i) 0) true refl))
+    ⊎_elim (λ (l : first < slot). rw (lt-ltb first slot l, le-leb first slot (omega arith)) (or_right (eqb ((slot - first) % f.period i) 0) true refl))
     (λ (l : slot ≤ first).
-    ⊎_elim (λ (m : slot < first). rw (lt_leb first slot m, le_ltb first slot l) refl)
+    ⊎_elim (λ (m : slot < first). rw (lt-leb first slot m, le-ltb first slot l) refl)
     (λ (m : first ≤ slot).
     let none : slot - first ≡ 0 = omega arith in
-    rw (le_leb first slot m, le_ltb first slot l, none, zero_mod (f.period i)) refl)
+    rw (le-leb first slot m, le-ltb first slot l, none, zero-mod (f.period i)) refl)
     (lt_or_ge slot first))
     (lt_or_ge first slot)
 

@@ -295,7 +295,7 @@ pub record Pins : Type 0 where
   -- 17, with the first l that has a wrong figure: of the full table those of flows 3 and 5, of book A one that is too small and one that is too
   -- large; a figure at h = l, or of an unused l, is not asked for
   pub wrong_figure : removes (with_figures table_a (one_figure 1)) 0 ∷ removes (with_figures table_a (one_figure 3)) 0 ∷ [] ≡ refused 17 1 ∷ refused 17 1 ∷ []
-  pub wrong_line_law : adds (with_figures full_table (set (set (replicate 1024 1) 98 0) 160 2)) 33 (flow_of 1 10 1) [] ≡ refused 17 3
+  pub wrong_line_lem : adds (with_figures full_table (set (set (replicate 1024 1) 98 0) 160 2)) 33 (flow_of 1 10 1) [] ≡ refused 17 3
   pub not_asked_for : removes (with_figures table_a (set (set (one_figure 2) 33 9) 64 9)) 2 ≡ refused 15 0
   pub order_8_17 : removes (with_figures (sections_of (jump book_a)) (one_figure 1)) 2 ≡ refused 8 2
   pub order_17_14 : adds (with_figures full_table (replicate 1024 0)) 33 (flow_of 1 10 1) [] ≡ refused 17 1

@@ -6,7 +6,7 @@ use mathlib.Core.Logic.{⊎_elim}
 use mathlib.Core.List.{List, [], ◌∷◌}
 use lib.Dec.{leb}
 use lib.ListN.{length}
-use borrow.Author.Tests.{eq_eqb, ne_eqb}
+use borrow.Author.Tests.{eq-eqb, ne_eqb}
 use Rattle.trade.specs.Limits.{area_bytes}
 use Rattle.trade.specs.Layout.{sections_of}
 use Rattle.trade.specs.Facts.{Facts, facts_of, facts_in, said, step_of, first_step}
@@ -62,7 +62,7 @@ module _ (b area : List ℕ) (place : ℕ) where
   module _ (opened : (read_answer b).code ≡ 0) where
     left_to : ask_answer handed ≡ first_of area_rules no_number handed
     unfolding ask_answer read_answer is_done
-    left_to = first_of_on (λ (a : Asking). a.book) book_rules area_rules no_number handed ∙ rw (eq_eqb (first_of book_rules no_number b).code 0 opened)
+    left_to = first_of_on (λ (a : Asking). a.book) book_rules area_rules no_number handed ∙ rw (eq-eqb (first_of book_rules no_number b).code 0 opened)
 
     pub area_short : length area < area_bytes → ask_answer handed ≡ refused 13 0
     area_short h =

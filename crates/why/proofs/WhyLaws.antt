@@ -6,7 +6,7 @@ use mathlib.Core.Bool.{true, false, ◌&&◌, ◌||◌}
 use mathlib.Core.List.{List, []}
 use mathlib.Core.Logic.{⊎_elim}
 use native.Mathlib.Omega.{arith}
-use borrow.Author.Tests.{lt_ltb, lt_leb, le_leb, ltb_true}
+use borrow.Author.Tests.{lt-ltb, lt-leb, le-leb, ltb-true}
 use lib.Dec.{leb}
 use Rattle.trade.specs.Limits.{most_flows}
 use Rattle.trade.specs.First.{first, sum_to}
@@ -59,7 +59,7 @@ module _ (flows : ℕ) (rows records steps : List ℕ) (formed : Formed flows ro
     unfolding granted_by unfinished done_now facts_of
     sends_within h e =
         let (below, work) = going_below (greedy facts none_due state) (unfinished facts none_due state) flows h (sym (chosen.goes h) ∙ e) in
-        rw (sends_is h e) (next_within flows rows records steps state formed h below (ltb_true (state.done h) (field records h 4) work))
+        rw (sends_is h e) (next_within flows rows records steps state formed h below (ltb-true (state.done h) (field records h 4) work))
 
     module _ (step : Transmission) (busy : state.done place < field records place 4) (is : step ≡ plan_step steps (sum_to (λ i. field records i 4) place) (field records place 4) (state.done place)) where
       step_is : step ≡ next_step facts none_due state place
@@ -90,7 +90,7 @@ module _ (flows : ℕ) (rows records steps : List ℕ) (formed : Formed flows ro
       module _ (waits : bit choice.places place ≡ false) where
         open_still : unfinished facts (begun_by true) state place ≡ true
         unfolding unfinished done_now facts_of
-        open_still = lt_ltb (state.done place) (field records place 4) busy
+        open_still = lt-ltb (state.done place) (field records place 4) busy
 
         left_out : among (granted facts (begun_by true) state) place ≡ false
         left_out = sym (goes_is place) ∙ waits
@@ -145,8 +145,8 @@ module _ (f : Facts) (area : List ℕ) (place : ℕ) where
 
   pub place_refused : (slot_answer f area).code ≡ 0 → f.flows ≤ place → Refused (refused 15 0) ≡ told_in f area place
   unfolding told_in
-  place_refused z l = sym (done_first (slot_answer f area) _ _ z ∙ rw (le_leb f.flows place l) refl)
+  place_refused z l = sym (done_first (slot_answer f area) _ _ z ∙ rw (le-leb f.flows place l) refl)
 
   pub place_told : (slot_answer f area).code ≡ 0 → place < f.flows → why f (releases_of f (state_in area)) (state_in area) place ≡ told_in f area place
   unfolding told_in
-  place_told z l = sym (done_first (slot_answer f area) _ _ z ∙ rw (lt_leb f.flows place l) refl)
+  place_told z l = sym (done_first (slot_answer f area) _ _ z ∙ rw (lt-leb f.flows place l) refl)

@@ -4,7 +4,7 @@ use mathlib.Core.Path.{◌≡◌, refl, ◌∙◌}
 use native.Mathlib.Omega.{arith}
 use borrow.Author.Rules.{rules}
 use borrow.Author.Count.{below_more}
-use lib.ListN.{length, length_set}
+use lib.ListN.{length, length-set}
 use Rattle.trade.specs.Limits.{most_flows}
 use Rattle.trade.specs.Area.{state_in}
 use Rattle.slot.specs.States.{place_of}
@@ -29,7 +29,7 @@ unfolding state_in
 loop_again c =
     let loop = c.before.before.loop in (
       omega arith,
-      simp length_set loop.invariant.1,
+      simp length-set loop.invariant.1,
       below_more _ _ (λ k h. unstored loop.flows loop.i k _ (λ e. omega arith) ∙ loop.invariant.2 k h)
           (stored loop.flows loop.i _ (omega arith)),
     )

@@ -5,7 +5,7 @@ use mathlib.Core.Bool.{false}
 use native.Mathlib.Omega.{arith}
 use borrow.Author.Rules.{rules}
 use borrow.Author.Count.{below_more}
-use borrow.Author.Tests.{eqb_true, not_false}
+use borrow.Author.Tests.{eqb-true, not-false}
 use Rattle.trade.specs.Limits.{most_flows}
 use Rattle.trade.proofs.First.{or_false}
 use Rattle.slot.specs.States.{place_of}
@@ -26,7 +26,7 @@ unfolding place_of
 loop_again c e =
     let loop = c.before.before.before.loop in
     let (none, zero) = or_false loop.stray _ e in
-    below_more _ _ (loop.invariant none) (λ l. eqb_true _ 0 (not_false _ zero))
+    below_more _ _ (loop.invariant none) (λ l. eqb-true _ 0 (not-false _ zero))
 
 returns : tie.Need-returns invariant_loop decreases_loop
 returns c = λ e k l h. c.before.loop.invariant e k (omega arith) l

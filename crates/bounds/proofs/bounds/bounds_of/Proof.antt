@@ -3,7 +3,7 @@ use Prim.Native.Nat.{ℕ, ◌+◌, ◌-◌, ◌≤◌, ◌<◌}
 use mathlib.Core.Path.{◌≡◌, refl, sym, ◌∙◌, ap}
 use mathlib.Core.List.{List}
 use lib.ListN.{get_or}
-use native.Mathlib.Numerals.{add_one}
+use native.Mathlib.Numerals.{add-one}
 use native.Mathlib.Omega.{arith}
 use native.Mathlib.Nat.{lt_of_lt_of_le}
 use Rattle.trade.specs.Limits.{most_flows, most_period}
@@ -147,7 +147,7 @@ loop_again c =
     let f : Facts = facts_in 0 a.flows a.rows.now a.records.now a.steps.now in
     let said = fields c.before.before.before.before.before.before in
     let room : loop.l < most_flows = lt_of_lt_of_le c.before.before.before.before.before.before.before.loop_test.true s.requires.most in (
-      rw (add_one loop.l) c.before.before.before.before.before.before.before.loop_test.true,
+      rw (add-one loop.l) c.before.before.before.before.before.before.before.loop_test.true,
       bounding_more f (measure f) loop.l _ _ _ _ _ room (bounded c.before.before) said.0 said.1 c.if1.false loop.invariant.1,
     )
 

@@ -2,7 +2,7 @@
 use Prim.Native.Nat.{ℕ, ◌+◌, ◌-◌, ◌*◌, ◌≤◌}
 use mathlib.Core.Path.{◌≡◌, ◌∙◌, ap}
 use native.Mathlib.Nat.{add_assoc}
-use native.Mathlib.Numerals.{add_one}
+use native.Mathlib.Numerals.{add-one}
 use native.Mathlib.Omega.{arith}
 use lib.ListN.{get_or}
 use Rattle.trade.specs.Limits.{most_steps}
@@ -36,7 +36,7 @@ loop_again c =
     let figure : ℕ → ℕ = λ h. get_or a.figures.now h 0 in (
       omega arith,
       omega (arith, loop.invariant.1, c.before.before.before.requires.2 loop.h (omega arith)),
-      rw (add_one loop.h, sum_next figure loop.h, loop.invariant.2) (add_assoc a.len (sum_to figure loop.h) (figure loop.h)),
+      rw (add-one loop.h, sum_next figure loop.h, loop.invariant.2) (add_assoc a.len (sum_to figure loop.h) (figure loop.h)),
     )
 
 returns : tie.Need-returns invariant_loop decreases_loop

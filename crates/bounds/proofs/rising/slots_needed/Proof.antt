@@ -1,8 +1,8 @@
 -- `bounds::rising::slots_needed` meets its contract: the sum is that of the flows passed. Assumes nothing.
 use Prim.Native.Nat.{ℕ, ◌+◌, ◌-◌, ◌*◌, ◌≤◌}
 use mathlib.Core.Path.{◌≡◌, ◌∙◌, ap}
-use native.Mathlib.Nat.{mul_le_mul, add_assoc}
-use native.Mathlib.Numerals.{add_one}
+use native.Mathlib.Nat.{mul-le-mul, add_assoc}
+use native.Mathlib.Numerals.{add-one}
 use native.Mathlib.Omega.{arith}
 use lib.ListN.{get_or}
 use Rattle.trade.specs.Limits.{most_period, most_steps}
@@ -58,7 +58,7 @@ adds :
     ≤ most
 adds c =
     let t = c.before.before.before.before.before.before.requires.0 in
-    mul_le_mul c.before.instances.ensures.1 (t.figure c.before.before.before.before.before.loop.h (omega arith))
+    mul-le-mul c.before.instances.ensures.1 (t.figure c.before.before.before.before.before.loop.h (omega arith))
 
 mul_sum_2 : tie.Need-overflow-mul-sum-2 invariant_loop decreases_loop
 mul_sum_2 c = omega (arith, adds c)
@@ -74,7 +74,7 @@ loop_again c =
     let term : ℕ → ℕ = λ h. instances a.r (get_or a.carries.now h 0) (get_or a.periods.now h 0) * get_or a.figures.now h 0 in (
       omega arith,
       omega (arith, adds c),
-      rw (add_one loop.h, sum_next term loop.h, loop.invariant.2, c.before.instances.ensures.0) (add_assoc a.len (sum_to term loop.h) (term loop.h)),
+      rw (add-one loop.h, sum_next term loop.h, loop.invariant.2, c.before.instances.ensures.0) (add_assoc a.len (sum_to term loop.h) (term loop.h)),
     )
 
 returns : tie.Need-returns invariant_loop decreases_loop

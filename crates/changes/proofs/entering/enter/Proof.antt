@@ -4,7 +4,7 @@ use mathlib.Core.Path.{◌≡◌, sym, ◌∙◌, ap, transport}
 use mathlib.Core.Bool.{cond}
 use native.Mathlib.Omega.{arith}
 use lib.ListN.{length, take}
-use lib.Seq.{length_take_le}
+use lib.Seq.{length-take-le}
 use Rattle.trade.specs.Limits.{most_steps, step_bytes}
 use Rattle.trade.specs.Table.{used}
 use Rattle.trade.specs.Kept.{tabled, kept_of}
@@ -97,7 +97,7 @@ array_borrow_prefix_taken c = let b = c.before.before.before.before.before.befor
 slice_aggregate_flow_in_2 : tie.Need-slice-aggregate-flow-in-2
 slice_aggregate_flow_in_2 c =
     let b = c.before.before.before.before.before.before.before in
-    sym (length_take_le _ _ (omega (arith, places (begun b), b.before.places_taken.ensures)))
+    sym (length-take-le _ _ (omega (arith, places (begun b), b.before.places_taken.ensures)))
 
 flow_in_requires : tie.Need-flow-in-requires
 flow_in_requires c κs = let b = c.before.before.before.before.before.before.before in comes b

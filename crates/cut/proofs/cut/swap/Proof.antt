@@ -3,8 +3,8 @@ use Prim.Native.Nat.{ℕ, ◌+◌, ◌-◌}
 use mathlib.Core.Path.{◌≡◌, sym, ◌∙◌, ap}
 use mathlib.Core.List.{List}
 use native.Mathlib.Omega.{arith}
-use lib.ListN.{length, take, drop, length_drop}
-use lib.Seq.{length_take_le}
+use lib.ListN.{length, take, drop, length-drop}
+use lib.Seq.{length-take-le}
 use Rattle.trade.specs.Bytes.{part}
 use Rattle.numbers.specs.Pasting.{pasted_at}
 use Rattle.cut.proofs.CutLaws.{kept_front, over_all}
@@ -37,7 +37,7 @@ returns c =
     let a = begin.args in
     let size = length a.held.now in
     let cut : a.at + size - a.at ≡ size = omega arith in
-    let whole = length_take_le (a.at + size - a.at) (drop a.at a.section.now) (omega (arith, length_drop a.at a.section.now, begin.pre)) in (
+    let whole = length-take-le (a.at + size - a.at) (drop a.at a.section.now) (omega (arith, length-drop a.at a.section.now, begin.pre)) in (
       third.put_at3.ensures ∙ ap (λ (l : List ℕ). pasted_at a.at l a.section.now) (kept (first third.before)),
       second.put_at2.ensures ∙ over_all _ a.held.now (whole ∙ cut) ∙ ap (λ (n : ℕ). take n (drop a.at a.section.now)) cut,
     )

@@ -1,6 +1,6 @@
 -- `figures::lanes::lay` sets the marks of each step into its word. The loop's invariant: those of the first j steps are set. The measure
 -- is how many steps are left. Assumes nothing.
-use Rattle.std.proofs.Common.{◌≡◌, ◌-◌, ◌≤◌, add_one, arith, rules}
+use Rattle.std.proofs.Common.{◌≡◌, ◌-◌, ◌≤◌, add-one, arith, rules}
 use Rattle.plans.specs.Plan.{steps_in}
 use Rattle.figures.proofs.LanesLaws.{LayingAt, laying_none, laying_more, laying_all}
 use Rattle.figures.proofs.lanes.lay.Statement.{statement}
@@ -52,7 +52,7 @@ loop_again : tie.Need-loop-preserved invariant_loop decreases_loop
 loop_again c =
     let start = c.before.before.before.before.before.before.before.before.before in
     let loop = c.before.before.before.before.loop in
-    rw (add_one loop.j) (
+    rw (add-one loop.j) (
       omega arith,
       loop.invariant.1,
       laying_more start.args.columns.now start.args.h.now start.args.at loop.j c.before.marks_of.result start.args.words.now loop.words

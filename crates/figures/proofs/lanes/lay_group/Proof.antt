@@ -1,6 +1,6 @@
 -- `figures::lanes::lay_group` lays flow by flow. The loop's invariant: those up to the next are laid, and the next lane begins where the
 -- last one ended. The measure is how many flows are left. Assumes nothing.
-use Rattle.std.proofs.Common.{◌≡◌, suc, ◌+◌, ◌-◌, ◌<◌, ◌≤◌, ◌⊎◌, length, sym, refl, ap, ◌∙◌, ap₂, ⊎_elim, arith, rules, ltb_true, lt_ltb}
+use Rattle.std.proofs.Common.{◌≡◌, suc, ◌+◌, ◌-◌, ◌<◌, ◌≤◌, ◌⊎◌, length, sym, refl, ap, ◌∙◌, ap₂, ⊎_elim, arith, rules, ltb-true, lt-ltb}
 use Rattle.trade.proofs.First.{lt_or_ge, not_both, and_true}
 use Rattle.nodes.proofs.MaskLaws.{one_bit, bit_only}
 use Rattle.plans.specs.Plan.{steps_in, plan_in}
@@ -39,7 +39,7 @@ room :
     → (c.before.before.loop.laid.next < c.before.before.before.before.before.before.before.args.l)
     × (c.before.before.loop.at + c.before.before.before.before.before.before.before.args.width < 64)
 room c =
-    let more = and_true _ _ (sym c.before.has_room.ensures ∙ c.if1.true) in (ltb_true _ _ more.0, ltb_true _ _ more.1)
+    let more = and_true _ _ (sym c.before.has_room.ensures ∙ c.if1.true) in (ltb-true _ _ more.0, ltb-true _ _ more.1)
 
 len_at_requires : tie.Need-len-at-requires invariant_loop decreases_loop
 len_at_requires c κs = omega (arith, (room c).0, c.before.before.before.before.before.before.before.requires.0.2)
@@ -123,7 +123,7 @@ returns c =
           absurd
           (not_both
           (c.before.has_room.ensures
-          ∙ rw (lt_ltb loop.laid.next a.l (omega (arith, start.requires.0.0)), lt_ltb (loop.at + a.width) 64 (omega (arith, rw none at loop.invariant.1, start.requires.0.4))) refl)
+          ∙ rw (lt-ltb loop.laid.next a.l (omega (arith, start.requires.0.0)), lt-ltb (loop.at + a.width) 64 (omega (arith, rw none at loop.invariant.1, start.requires.0.4))) refl)
           c.if1.false))
           (lt_or_ge a.first loop.laid.next);
       all = g;

@@ -1,6 +1,6 @@
 -- `figures::lanes::read_out` reads lane by lane. The loop's invariant: the figures up to h are read. The measure is how many are left.
 -- Assumes nothing.
-use Rattle.std.proofs.Common.{◌≡◌, ℕ, suc, ◌+◌, ◌-◌, ◌≤◌, add_one, arith}
+use Rattle.std.proofs.Common.{◌≡◌, ℕ, suc, ◌+◌, ◌-◌, ◌≤◌, add-one, arith}
 use Rattle.figures.specs.Rises.{lane_at}
 use Rattle.figures.specs.Lanes.{ReadOut}
 use Rattle.figures.proofs.RisesLaws.{lane_later}
@@ -57,7 +57,7 @@ loop_again c =
     let a = start.args in
     let loop = c.before.before.loop in
     let on : suc loop.h - a.first ≡ suc (loop.h - a.first) = omega (arith, loop.invariant.0) in
-    rw (add_one loop.h) (
+    rw (add-one loop.h) (
       omega (arith, loop.invariant.0),
       omega arith,
       rw (on, lane_on a.width (loop.h - a.first), loop.invariant.2) (omega arith),

@@ -1,7 +1,7 @@
 -- `numbers::numbers::put_word` stores the two bytes of a number. Assumes nothing.
 use native.Mathlib.Omega.{arith}
-use native.Mathlib.Numerals.{add_one}
-use lib.Seq.{sets_eq}
+use native.Mathlib.Numerals.{add-one}
+use lib.Seq.{sets-eq}
 use Rattle.trade.specs.Bytes.{two_bytes}
 use Rattle.numbers.specs.Pasting.{pasted_at}
 use borrow.Author.Rules.{rules}
@@ -10,7 +10,7 @@ use Rattle.numbers.proofs.numbers.put_word.Tie as tie
 
 returns : tie.Need-returns
 unfolding two_bytes pasted_at
-returns c = rw add_one (sets_eq (two_bytes c.args.n) c.args.buffer.now c.args.at (omega arith))
+returns c = rw add-one (sets-eq (two_bytes c.args.n) c.args.buffer.now c.args.at (omega arith))
 
 pub put_word_spec : {M : Type 1} → statement M
 put_word_spec =

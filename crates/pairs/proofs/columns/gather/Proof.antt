@@ -3,7 +3,7 @@
 use Prim.Native.Nat.{ℕ, suc, ◌-◌, ◌≤◌}
 use mathlib.Core.Path.{◌≡◌, refl, ◌∙◌}
 use native.Mathlib.Omega.{arith}
-use native.Mathlib.Numerals.{add_one}
+use native.Mathlib.Numerals.{add-one}
 use borrow.Author.Rules.{rules}
 use lib.ListN.{length, get_or}
 use Rattle.trade.specs.Limits.{most_nodes}
@@ -49,7 +49,7 @@ loop_again c =
     let len : ℕ = c.before.before.before.before.before.before.before.step_count.result in
     let noted = c.before.before.note.ensures in
     let e : len - 1 - loop.b ≡ steps_in plan - suc loop.b = omega (arith, loop.invariant.1) in
-    rw (add_one loop.b) (
+    rw (add-one loop.b) (
       omega arith,
       loop.invariant.1,
       noted.size ∙ loop.invariant.2,

@@ -3,7 +3,7 @@
 use Prim.Native.Nat.{ℕ, ◌-◌, ◌≤◌}
 use mathlib.Core.Path.{◌≡◌, refl}
 use native.Mathlib.Omega.{arith}
-use native.Mathlib.Numerals.{add_one}
+use native.Mathlib.Numerals.{add-one}
 use Rattle.trade.specs.First.{some}
 use Rattle.trade.specs.Bytes.{bit}
 use Rattle.trade.specs.Facts.{step_in}
@@ -34,7 +34,7 @@ loop_again : tie.Need-loop-preserved invariant_loop decreases_loop
 loop_again c =
     let loop = c.before.before.before.before.loop in
     let steps = c.before.before.before.before.before.before.args.steps.now in
-    rw (add_one loop.j) (
+    rw (add-one loop.j) (
       omega arith,
       rw (c.before.only.ensures, c.only2.ensures, c.before.before.step_at.ensures)
           (ends_more (step_in steps loop.j) loop.nodes loop.j (λ i x. ending (step_in steps i) x) (λ x. refl) loop.invariant.1),

@@ -4,9 +4,9 @@ use Prim.Native.Nat.{◌+◌, ◌-◌, ◌*◌, ◌≤◌, ◌<◌}
 use mathlib.Core.Path.{◌≡◌, refl, sym, ◌∙◌}
 use mathlib.Core.Logic.{⊎_elim}
 use native.Mathlib.Omega.{arith}
-use native.Mathlib.Numerals.{add_one}
+use native.Mathlib.Numerals.{add-one}
 use borrow.Author.Rules.{rules}
-use borrow.Author.Tests.{not_true, not_false}
+use borrow.Author.Tests.{not-true, not-false}
 use lib.ListN.{length}
 use Rattle.trade.specs.Limits.{step_bytes}
 use Rattle.plans.specs.Plan.{steps_in}
@@ -53,16 +53,16 @@ loop_again c =
     let plan = start.args.plan.now in
     let loop = c.before.before.before.loop in
     let known = c.before.is_again.ensures in
-    rw (add_one loop.k) (
+    rw (add-one loop.k) (
       omega arith,
       loop.invariant.1,
-      ⊎_elim (λ w. rw w.7 (omega (arith, loop.invariant.2, singles_new plan loop.k (sym known ∙ not_true _ w.0.taken))))
-          (λ w. rw w.2 (loop.invariant.2 ∙ sym (singles_again plan loop.k (sym known ∙ not_false _ w.0.left)))) c.if1.branch,
+      ⊎_elim (λ w. rw w.7 (omega (arith, loop.invariant.2, singles_new plan loop.k (sym known ∙ not-true _ w.0.taken))))
+          (λ w. rw w.2 (loop.invariant.2 ∙ sym (singles_again plan loop.k (sym known ∙ not-false _ w.0.left)))) c.if1.branch,
       ⊎_elim
           (λ w.
           let room : step_bytes * singles plan loop.k + 1 < length loop.out = omega (arith, loop.invariant.1, loop.invariant.2, singles_most plan loop.k, loop.invariant.3.size, start.requires) in
-          rw (w.6, w.3.ensures, w.2.ensures, loop.invariant.2) (singled_new plan loop.k start.args.out.now loop.out (sym known ∙ not_true _ w.0.taken) room loop.invariant.3))
-          (λ w. rw w.1 (singled_again plan loop.k start.args.out.now loop.out (sym known ∙ not_false _ w.0.left) loop.invariant.3)) c.if1.branch,
+          rw (w.6, w.3.ensures, w.2.ensures, loop.invariant.2) (singled_new plan loop.k start.args.out.now loop.out (sym known ∙ not-true _ w.0.taken) room loop.invariant.3))
+          (λ w. rw w.1 (singled_again plan loop.k start.args.out.now loop.out (sym known ∙ not-false _ w.0.left) loop.invariant.3)) c.if1.branch,
     )
 
 same_length : tie.Need-same-length invariant_loop decreases_loop

@@ -18,7 +18,7 @@ use contract.Monad.{Fun}
 use contract.Running.{tables, tables_of}
 use types.Kit.{‵, raw, ◌⊛◌, ⋆, ◌$◌, ◌∵◌, !, qed, by, move, drop, use1, use2, split, join, fsplit, fjoin, suffices, frame, done}
 use types.Run.{look, init, forget, stop, from, load, and_then, no_more, land, returns, enter, alloc1, alloc0, params1, pass1, pass0, free1, free0}
-use sound.WpLaws.{FmC, fm_of, WpFn_mono}
+use sound.WpLaws.{FmC, fm_of, WpFn-mono}
 use denote.RattleType.{RattleType, owns}
 use denote.Laws.{Is}
 use denote.Plain.{uint_Makes, uint_vals, uint_Tells}
@@ -221,7 +221,7 @@ plan_step_meets {𝓤 = 𝓤} 𝓛 mem run 𝓣 known_part Known-of Known-step =
     let runs = WpFn 𝓤 𝓛.H 𝓣.C 𝓣.Λ code.function in
     let number = Goes-none 𝓛 1 (λ _. usize) yes (λ κs x f. refl) in
     walk_Meets 𝓛 plan_step.ended stayed (Goes-none_slice 𝓛 1 (0 ∷ []) tt (plain (λ _. u8)) yes, (number, (number, (number, tt)))) clauses runs
-    (WpFn_mono 𝓤 𝓛.H 𝓛.laws 𝓣 code.function)
+    (WpFn-mono 𝓤 𝓛.H 𝓛.laws 𝓣 code.function)
     (walked 𝓛 plan_step.ended stayed clauses runs
     (λ κs. (shr_slice_vals, (uint_vals w64, (uint_vals w64, (uint_vals w64, tt)))))
     (λ κs. (shr_slice_Tells (named 0) κs.0 u8, (uint_Tells w64, (uint_Tells w64, (uint_Tells w64, tt)))))

@@ -18,7 +18,7 @@ use contract.Running.{tables, tables_of}
 use types.Kit.{‵, raw, ◌⊛◌, ◌$◌, ◌∵◌, !, qed, by, move, use1, split, fsplit, fjoin, suffices, frame}
 use types.Part.{agg}
 use types.Run.{look, init, forget, stop, from, load, and_then, no_more, assigns, returns, enter, alloc1, alloc0, params1, pass1, pass0, free1, free0}
-use sound.WpLaws.{WpFn_mono}
+use sound.WpLaws.{WpFn-mono}
 use denote.RattleType.{owns}
 use denote.Laws.{Is}
 use denote.Builtin.{u8}
@@ -95,7 +95,7 @@ view_of_meets {𝓤 = 𝓤} 𝓛 mem run 𝓣 =
     let clauses = view_of.clauses 𝓛 mem run in
     let runs = WpFn 𝓤 𝓛.H 𝓣.C 𝓣.Λ code.function in
     walk_Meets 𝓛 view_of.ended stayed (Goes-none_slice 𝓛 1 (0 ∷ []) tt (plain (λ _. u8)) yes, tt) clauses runs
-    (WpFn_mono 𝓤 𝓛.H 𝓛.laws 𝓣 code.function)
+    (WpFn-mono 𝓤 𝓛.H 𝓛.laws 𝓣 code.function)
     (walked 𝓛 view_of.ended stayed clauses runs
     (λ κs. (shr_slice_vals, tt)) (λ κs. (shr_slice_Tells (named 0) κs.0 u8, tt))
     (λ κs qs bounds a g are. via 𝓤 _ (fst∗ 𝓤 _ (emp 𝓤)) (walk 𝓛 mem run κs.0 qs.0 a.0 𝓣.C 𝓣.Λ are.0)))

@@ -18,7 +18,7 @@ use contract.Running.{tables, tables_of}
 use types.Kit.{‵, raw, ◌⊛◌, ⋆, ◌$◌, ◌∵◌, !, qed, by, move, use1, split, fjoin, suffices, frame, done}
 use types.Part.{whole, sub, look_in}
 use types.Run.{look, init, forget, stop, fld, from, load, of_opd, and_then, no_more, assigns, land, returns, enter, alloc1, alloc0, params1, pass1, pass0, free1, free0}
-use sound.WpLaws.{FmC, fm_of, WpFn_mono}
+use sound.WpLaws.{FmC, fm_of, WpFn-mono}
 use denote.RattleType.{owns}
 use denote.Laws.{Is}
 use denote.Plain.{uint_Makes, uint_vals, uint_Tells}
@@ -122,7 +122,7 @@ view_step_meets {𝓤 = 𝓤} 𝓛 mem run 𝓣 known =
     let clauses = view_step.clauses 𝓛 mem run in
     let runs = WpFn 𝓤 𝓛.H 𝓣.C 𝓣.Λ code.function in
     walk_Meets 𝓛 view_step.ended stayed (Goes-none 𝓛 1 Row yes (λ κs x f. refl), (Goes-none 𝓛 1 (λ _. usize) yes (λ κs x f. refl), tt))
-    clauses runs (WpFn_mono 𝓤 𝓛.H 𝓛.laws 𝓣 code.function)
+    clauses runs (WpFn-mono 𝓤 𝓛.H 𝓛.laws 𝓣 code.function)
     (walked 𝓛 view_step.ended stayed clauses runs
     (λ κs. (LL.vals (type_of κs) (laws_of κs), (uint_vals w64, tt))) (λ κs. (LL.tells (type_of κs) (laws_of κs), (uint_Tells w64, tt)))
     (λ κs qs bounds a g are. via 𝓤 _ (fst∗ 𝓤 _ (emp 𝓤))

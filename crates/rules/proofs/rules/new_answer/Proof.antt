@@ -22,7 +22,7 @@ use Rattle.bounds.specs.Bounds.{bounded_in}
 use Rattle.bounds.specs.declared.bounds.Checked.{Checked}
 use Rattle.table.proofs.CheckedLaws.{formed_timed}
 use Rattle.rules.specs.Rules.{NewFigures}
-use Rattle.square.proofs.CarriedLaws.{formed_pairs, with_figures_law}
+use Rattle.square.proofs.CarriedLaws.{formed_pairs, with_figures_lem}
 use Rattle.rules.proofs.RulesLaws.{new_nine, with_nine}
 use borrow.Author.Rules.{rules}
 use Rattle.rules.proofs.rules.new_answer.Statement.{statement}
@@ -123,7 +123,7 @@ returns_4 c =
       figures =
           c.before.before.figures_in.ensures
           ∙ ap (λ (pairs : List ℕ). with_figures a.flows a.place pairs a.figures.now) c.before.before.before.before.before.before.before.before.before.before.before.pairs_at.ensures
-          ∙ with_figures_law a.flows a.place a.rows.now a.records.now a.steps.now a.figures.now (s.requires.1.right (six_passes c.before.before.before.before.before.before.before.before.before.before.before.before.before.before.before)) s.requires.0.flows
+          ∙ with_figures_lem a.flows a.place a.rows.now a.records.now a.steps.now a.figures.now (s.requires.1.right (six_passes c.before.before.before.before.before.before.before.before.before.before.before.before.before.before.before)) s.requires.0.flows
           ∙ figures_counted 0 a.nodes a.flows a.rows.now a.records.now a.steps.now
           ∙ sym (done_first c.before.before.before.before.before.before.before.before.bounds_with.result.answer _ _ c.before.before.before.before.before.if3.false);
     }

@@ -4,7 +4,7 @@ use mathlib.Core.Path.{◌≡◌, ◌∙◌, ap}
 use native.Mathlib.Omega.{arith}
 use borrow.Author.Rules.{rules}
 use borrow.Author.Count.{below_more}
-use lib.ListN.{length, length_set}
+use lib.ListN.{length, length-set}
 use Rattle.trade.specs.Limits.{most_flows}
 use Rattle.trade.specs.Layout.{field}
 use Rattle.trade.specs.declared.state.Progress.{Progress}
@@ -42,7 +42,7 @@ loop_again : tie.Need-loop-preserved invariant_loop decreases_loop
 loop_again c =
     let loop = c.before.before.before.loop in (
       omega arith,
-      simp length_set loop.invariant.1,
+      simp length-set loop.invariant.1,
       loop.invariant.2,
       below_more _ _ (λ k h. unstored loop.places loop.i k _ (λ e. omega arith) ∙ loop.invariant.3 k h)
           (stored loop.places loop.i _ (omega arith) ∙ ap (λ (p : Progress). p.done.0) c.idle.ensures ∙ c.before.len_at.ensures.0),

@@ -3,7 +3,7 @@ use Prim.Native.Nat.{◌-◌}
 use mathlib.Core.Path.{◌≡◌, refl}
 use mathlib.Core.Logic.{⊎_elim}
 use native.Mathlib.Omega.{arith}
-use borrow.Author.Tests.{eq_eqb, ne_eqb}
+use borrow.Author.Tests.{eq-eqb, ne_eqb}
 use Rattle.trade.specs.Codes.{repeats, goes_on}
 use Rattle.sections.specs.Steps.{unjoined, own, fresh}
 use Rattle.sections.proofs.AtOnceLaws.{both_equal}
@@ -12,7 +12,7 @@ use Rattle.sections.proofs.at_once.starts_anew.Statement.{statement}
 use Rattle.sections.proofs.at_once.starts_anew.Tie as tie
 
 returns : tie.Need-returns
-returns c = rw (eq_eqb _ _ c.if1.true) refl
+returns c = rw (eq-eqb _ _ c.if1.true) refl
 
 both_at_requires_2 : tie.Need-both-at-requires-2
 both_at_requires_2 c κs = ⊎_elim (λ w. omega arith) (λ w. omega arith) c.if2.branch

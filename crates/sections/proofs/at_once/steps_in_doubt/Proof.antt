@@ -4,7 +4,7 @@ use mathlib.Core.Path.{refl, sym, ◌∙◌, ap}
 use mathlib.Core.Bool.{not}
 use mathlib.Core.List.{[]}
 use lib.Dec.{eqb, leb, ltb}
-use borrow.Author.Tests.{eqb_true, ltb_false, leb_false, not_false}
+use borrow.Author.Tests.{eqb-true, ltb-false, leb-false, not-false}
 use Rattle.trade.specs.Limits.{most_flows, most_steps}
 use Rattle.trade.specs.First.{sum_to}
 use Rattle.trade.specs.Interference.{one}
@@ -22,7 +22,7 @@ within :
 within c =
     let all = c.before.count_anew.result.all in
     let p = or_false (ltb all 1) (ltb (most_flows * most_steps) all) c.if1.false in
-    (ltb_false all 1 p.0, ltb_false (most_flows * most_steps) all p.1)
+    (ltb-false all 1 p.0, ltb-false (most_flows * most_steps) all p.1)
 
 returns : tie.Need-returns
 returns c = λ e. absurd (not_both refl e)
@@ -44,10 +44,10 @@ returns_2 c =
     let p = or_false (leb a.nodes most.result) (not (eqb off_count.result begun.result.anew)) e in
     none_bad a.nodes a.flows [] a.records.now a.steps.now most.result
     (λ k h. most.ensures k (rw begun.ensures.0 h))
-    (leb_false a.nodes most.result p.0)
+    (leb-false a.nodes most.result p.0)
     (ap (sum_to (λ k. one (off a.steps.now k))) (sym begun.ensures.0)
     ∙ sym off_count.ensures
-    ∙ eqb_true off_count.result begun.result.anew (not_false _ p.1)
+    ∙ eqb-true off_count.result begun.result.anew (not-false _ p.1)
     ∙ begun.ensures.1)
 
 pub steps_in_doubt_spec : {M : Type 1} → statement M

@@ -4,7 +4,7 @@ use mathlib.Core.Path.{◌≡◌, ◌∙◌, sym, ap}
 use mathlib.Core.Bool.{false}
 use borrow.Author.Rules.{rules}
 use borrow.Author.Count.{below_more}
-use borrow.Author.Tests.{eq_eqb, ne_eqb}
+use borrow.Author.Tests.{eq-eqb, ne_eqb}
 use native.Mathlib.Omega.{arith}
 use lib.Dec.{eqb}
 use Rattle.trade.specs.Layout.{field}
@@ -27,7 +27,7 @@ returns c =
     let j = c.before.before.before.loop.j in
     sym
     (some_intro (λ (k : ℕ). eqb (field a.records.now k 0) (field a.records.now a.i 0)) a.i j (omega arith)
-    (eq_eqb _ _ (sym c.before.id_at2.ensures ∙ c.if1.true ∙ c.before.before.before.before.id_at.ensures)))
+    (eq-eqb _ _ (sym c.before.id_at2.ensures ∙ c.if1.true ∙ c.before.before.before.before.id_at.ensures)))
 
 loop_again : tie.Need-loop-preserved invariant_loop decreases_loop
 loop_again c = (

@@ -6,7 +6,7 @@ use mathlib.Core.Bool.{false}
 use mathlib.Core.List.{[]}
 use borrow.Author.Count.{below_more}
 use native.Mathlib.Omega.{arith}
-use lib.ListN.{length, get_or, length_set}
+use lib.ListN.{length, get_or, length-set}
 use Rattle.trade.specs.Layout.{field}
 use Rattle.trade.specs.Facts.{facts_in, facts_of}
 use Rattle.trade.specs.Codes.{bad_record, code6}
@@ -46,7 +46,7 @@ loop_again c =
           let none = or_false loop.bad c.is_bad_record.result e in
           below_more _ _ (loop.invariant.1 none.0) (sym c.is_bad_record.ensures ∙ none.1),
       rw c.before.id_at.ensures (mark_more loop.met records loop.i loop.invariant.3 loop.invariant.2),
-      length_set loop.met (c.before.id_at.result % 256) 1 ∙ loop.invariant.3,
+      length-set loop.met (c.before.id_at.result % 256) 1 ∙ loop.invariant.3,
     )
 
 returns : tie.Need-returns invariant_loop decreases_loop

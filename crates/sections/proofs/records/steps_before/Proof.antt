@@ -1,7 +1,7 @@
 -- `sections::records::steps_before` meets its contract: the sum is that of the plans passed. Assumes nothing.
 use Prim.Native.Nat.{ℕ, ◌≤◌, ◌+◌, ◌-◌, ◌*◌}
 use mathlib.Core.Path.{◌≡◌, refl, ◌∙◌, ap, ap₂}
-use native.Mathlib.Numerals.{add_one}
+use native.Mathlib.Numerals.{add-one}
 use Rattle.trade.specs.Limits.{most_id}
 use native.Mathlib.Omega.{arith}
 use Rattle.trade.specs.First.{sum_to}
@@ -24,7 +24,7 @@ unfolding sum_to
 loop_again c = (
   omega arith,
   omega arith,
-  rw (add_one c.before.before.loop.i)
+  rw (add-one c.before.before.loop.i)
       (ap₂ (λ (a b : ℕ). a + b) c.before.before.loop.invariant.2 c.len_at.ensures.0),
 )
 

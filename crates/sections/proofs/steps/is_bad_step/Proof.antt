@@ -3,7 +3,7 @@
 use borrow.Author.Rules.{rules}
 use borrow.Author.Tests.{ne_eqb}
 use mathlib.Core.Path.{◌≡◌, ◌∙◌, sym}
-use mathlib.Core.Bool.{or_false}
+use mathlib.Core.Bool.{or-false}
 use Rattle.trade.specs.Facts.{step_in}
 use Rattle.sections.specs.Steps.{misplaced, bad_in_plan}
 use Rattle.sections.proofs.steps.is_bad_step.Statement.{statement}
@@ -15,7 +15,7 @@ returns c =
     let a = c.before.before.before.before.args in
     let e : a.j ≡ 0 = c.before.if1.true in
     c.is_misplaced.ensures
-    ∙ rw (c.before.before.step_at.ensures, e) (sym (or_false (misplaced a.nodes (step_in a.plan.now 0))))
+    ∙ rw (c.before.before.step_at.ensures, e) (sym (or-false (misplaced a.nodes (step_in a.plan.now 0))))
 
 returns_2 : tie.Need-returns-2
 unfolding bad_in_plan

@@ -4,14 +4,14 @@ use mathlib.Core.Path.{◌≡◌, refl, ◌∙◌, sym, ap, ap₂}
 use mathlib.Core.Bool.{false}
 use mathlib.Core.List.{List, []}
 use borrow.Author.Rules.{rules}
-use lib.ListN.{length, drop, length_drop}
+use lib.ListN.{length, drop, length-drop}
 use native.Mathlib.Omega.{arith}
 use Rattle.trade.specs.Limits.{step_bytes}
 use Rattle.trade.specs.First.{first, sum_to}
 use Rattle.trade.specs.Layout.{field}
 use Rattle.trade.specs.Facts.{facts_in, facts_of, first_step, all_steps}
 use Rattle.trade.specs.Codes.{bad_step, code8}
-use native.Mathlib.Numerals.{add_one}
+use native.Mathlib.Numerals.{add-one}
 use Rattle.trade.specs.Answers.{refused}
 use Rattle.trade.proofs.Sums.{sum_next}
 use Rattle.trade.proofs.Answers.{given_first_none}
@@ -74,7 +74,7 @@ first_bad_step_requires : tie.Need-first-bad-step-requires invariant_loop decrea
 first_bad_step_requires c κs =
     let steps = c.before.before.before.before.before.before.args.steps.now in
     let start = c.before.before.before.loop.start in
-    rw (part_tail (2 * start) steps, length_drop (2 * start) steps) (omega (arith, room c.before))
+    rw (part_tail (2 * start) steps, length-drop (2 * start) steps) (omega (arith, room c.before))
 
 add_refused : tie.Need-overflow-add-refused invariant_loop decreases_loop
 add_refused c = omega (arith, room c.before.before.before)
@@ -104,7 +104,7 @@ loop_again c =
     let bad = found c.before in
     let len = c.before.before.before.len_at.ensures.0 in (
       omega arith,
-      rw (add_one loop.i, sum_next (λ (k : ℕ). field a.records.now k 4) loop.i, loop.invariant.1, len) refl,
+      rw (add-one loop.i, sum_next (λ (k : ℕ). field a.records.now k 4) loop.i, loop.invariant.1, len) refl,
       λ k h.
           none_found a.nodes a.flows [] a.records.now a.steps.now loop.i (omega arith)
           (λ j b. loop.invariant.2 j (rw loop.invariant.1 b)) (rw (← bad, ← len) c.if1.false) k (rw (← loop.invariant.1, ← len) h),

@@ -2,7 +2,7 @@
 use Prim.Native.Nat.{ℕ, ◌+◌, ◌-◌, ◌≤◌}
 use mathlib.Core.Path.{◌≡◌, refl, ap₂}
 use mathlib.Core.Logic.{⊎_elim}
-use native.Mathlib.Numerals.{add_one}
+use native.Mathlib.Numerals.{add-one}
 use native.Mathlib.Omega.{arith}
 use borrow.Author.Rules.{rules}
 use Rattle.trade.specs.Limits.{most_steps}
@@ -80,8 +80,8 @@ loop_again c =
     let len = c.before.before.before.before.before.len_at.ensures.0 in
     let turned = c.before.before.take_turn in (
       omega arith,
-      rw (add_one loop.i, sum_next (λ (k : ℕ). field a.records.now k 4) loop.i) (ap₂ ◌+◌ loop.invariant.1 len),
-      rw (add_one loop.i)
+      rw (add-one loop.i, sum_next (λ (k : ℕ). field a.records.now k 4) loop.i) (ap₂ ◌+◌ loop.invariant.1 len),
+      rw (add-one loop.i)
           (⊎_elim
           (λ w.
           rw (w.2, w.3, one_bit_of 32 loop.i (omega (arith, taken, start.requires.0.most)))

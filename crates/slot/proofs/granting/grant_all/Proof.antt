@@ -3,11 +3,11 @@
 use Prim.Native.Nat.{ℕ, ◌+◌, ◌-◌, ◌*◌, ◌≤◌, ◌<◌}
 use mathlib.Core.Path.{◌≡◌, ◌∙◌, ap}
 use mathlib.Core.Bool.{true}
-use native.Mathlib.Numerals.{add_one}
+use native.Mathlib.Numerals.{add-one}
 use native.Mathlib.Omega.{arith}
 use lib.Bits.{and_le_l, and_le_r}
 use lib.Count.{count_trailing_zeros, trailing_le}
-use lib.ListN.{length, get_or, length_take, length_drop}
+use lib.ListN.{length, get_or, length-take, length-drop}
 use borrow.Author.Rules.{rules}
 use Rattle.trade.specs.Limits.{most_flows, most_steps, grant_bytes}
 use Rattle.trade.specs.Bytes.{bit}
@@ -116,7 +116,7 @@ part_write_grant_start : tie.Need-slice-bounds-write-grant-start invariant_loop 
 part_write_grant_start c = omega (arith, room c.before.before.before.before.before.before)
 
 write_grant_requires : tie.Need-write-grant-requires invariant_loop decreases_loop
-write_grant_requires c κs = simp (length_take, length_drop) (omega (arith, room c.before.before.before.before.before.before.before))
+write_grant_requires c κs = simp (length-take, length-drop) (omega (arith, room c.before.before.before.before.before.before.before))
 
 add_t35 : tie.Need-overflow-add-t35 invariant_loop decreases_loop
 unfolding place_of
@@ -143,9 +143,9 @@ loop_again c =
     let put = c.before.before.before.write_grant in (
       p + 1,
       omega arith,
-      rw (add_one p) (left_next a.records.now a.t2 a.run a.choice a.grants.now loop.invariant.0 loop.rest p loop.invariant.2 low),
+      rw (add-one p) (left_next a.records.now a.t2 a.run a.choice a.grants.now loop.invariant.0 loop.rest p loop.invariant.2 low),
       omega (arith, and_le_l loop.rest (loop.rest - 1), loop.invariant.3),
-      rw (add_one p)
+      rw (add-one p)
           (given_goes a.records.now a.t2 a.run a.choice a.grants.now loop.invariant.0 loop.rest p loop.invariant.2 low start.requires below loop.places loop.count
           loop.grants loop.invariant.4 grant.result
           (grant.ensures ∙ ap (λ (w : Flow). grant_by w (get_or a.t2 p (record { 0 = 0 })) a.run.slot (get_or loop.places p (idle_of 0)).done (get_or a.choice.sent p no_step)) c.before.before.before.before.before.before.before.before.record_at.ensures)

@@ -1,19 +1,19 @@
 -- `slot::writer::write_grant` writes the id, the instance behind it, and the rest. Assumes nothing.
 use native.Mathlib.Omega.{arith}
-use lib.ListN.{length_set}
+use lib.ListN.{length-set}
 use Rattle.slot.proofs.WriterLaws.{grant_written}
 use borrow.Author.Rules.{rules}
 use Rattle.slot.proofs.writer.write_grant.Statement.{statement}
 use Rattle.slot.proofs.writer.write_grant.Tie as tie
 
 slice_write_part_2 : tie.Need-slice-write-part-2
-slice_write_part_2 c = simp length_set (omega arith)
+slice_write_part_2 c = simp length-set (omega arith)
 
 slice_write_part_3 : tie.Need-slice-write-part-3
-slice_write_part_3 c = simp length_set (omega arith)
+slice_write_part_3 c = simp length-set (omega arith)
 
 same_length : tie.Need-same-length
-same_length c = simp length_set (omega arith)
+same_length c = simp length-set (omega arith)
 
 returns : tie.Need-returns
 returns c =

@@ -4,7 +4,7 @@ use Prim.Native.Nat.{ℕ, ◌+◌, ◌-◌, ◌≤◌}
 use mathlib.Core.Path.{◌≡◌, sym, ◌∙◌, ap}
 use mathlib.Core.Bool.{not}
 use native.Mathlib.Omega.{arith}
-use borrow.Author.Tests.{lt_ltb, le_ltb}
+use borrow.Author.Tests.{lt-ltb, le-ltb}
 use lib.Dec.{ltb}
 use Rattle.trade.specs.Limits.{most_flows}
 use Rattle.square.specs.Carried.{figure_with, in_line, with_figures}
@@ -21,7 +21,7 @@ abbrev decreases_loop : tie.decreases_loop
 decreases_loop flows place pairs figures₀ l₀ figures l = l
 
 loop_holds : tie.Need-loop-init invariant_loop decreases_loop
-loop_holds c = (omega arith, lines_none _ _ _ c.before.requires.0 (λ j h. ap not (lt_ltb j most_flows h)))
+loop_holds c = (omega arith, lines_none _ _ _ c.before.requires.0 (λ j h. ap not (lt-ltb j most_flows h)))
 
 line_in_requires : tie.Need-line-in-requires invariant_loop decreases_loop
 line_in_requires c κs = (c.before.before.loop.invariant.1.size, omega (arith, c.before.before.loop.invariant.0, c.before.loop_test.true))
@@ -33,7 +33,7 @@ line c =
     let loop = c.before.before.before.loop in
     c.line_in.ensures
     ∙ with_in _ a.flows a.place a.pairs.now a.figures.now (λ j. not (ltb j loop.l)) loop.figures (loop.l - 1) loop.invariant.1
-    (omega (arith, loop.invariant.0, c.before.before.loop_test.true)) (λ j h. ap not (lt_ltb j loop.l (omega (arith, c.before.before.loop_test.true))))
+    (omega (arith, loop.invariant.0, c.before.before.loop_test.true)) (λ j h. ap not (lt-ltb j loop.l (omega (arith, c.before.before.loop_test.true))))
 
 put_line_requires : tie.Need-put-line-requires invariant_loop decreases_loop
 put_line_requires c κs =
@@ -54,7 +54,7 @@ loop_again c =
     let one : loop.l ≡ l + 1 = omega (arith, c.before.before.before.before.before.before.before.loop_test.true) in (
       omega (arith, loop.invariant.0),
       lines_more a.flows (figure_with a.place a.pairs.now a.figures.now) _ (λ j. not (ltb j loop.l)) (λ j. not (ltb j l)) l _ loop.figures _
-          (line c.before.before.before.before.before) c.before.before.put_line.ensures (ap not (le_ltb l l (omega arith)))
+          (line c.before.before.before.before.before) c.before.before.put_line.ensures (ap not (le-ltb l l (omega arith)))
           (λ j d. ap not (sym (one_more l j d) ∙ ap (ltb j) (sym one))) loop.invariant.1,
     )
 
@@ -66,7 +66,7 @@ unfolding with_figures
 returns c =
     let loop = c.before.loop in
     let none : loop.l ≡ 0 = omega (arith, c.loop_test.false) in
-    lines_all _ _ _ loop.figures (λ j h. ap not (le_ltb j 0 (omega arith))) (rw none at loop.invariant.1)
+    lines_all _ _ _ loop.figures (λ j h. ap not (le-ltb j 0 (omega arith))) (rw none at loop.invariant.1)
 
 pub figures_in_spec : {M : Type 1} → statement M
 figures_in_spec =

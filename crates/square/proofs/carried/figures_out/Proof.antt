@@ -3,7 +3,7 @@
 use Prim.Native.Nat.{◌+◌, ◌-◌, ◌*◌, ◌≤◌}
 use mathlib.Core.Path.{◌≡◌, sym, ◌∙◌}
 use native.Mathlib.Omega.{arith}
-use borrow.Author.Tests.{lt_ltb, le_ltb}
+use borrow.Author.Tests.{lt-ltb, le-ltb}
 use lib.Dec.{ltb}
 use Rattle.trade.specs.Limits.{most_flows}
 use Rattle.trade.specs.Kept.{figure_in}
@@ -22,7 +22,7 @@ abbrev decreases_loop : tie.decreases_loop
 decreases_loop flows place figures₀ l₀ figures l = most_flows - l
 
 loop_holds : tie.Need-loop-init invariant_loop decreases_loop
-loop_holds c = (omega arith, lines_none _ _ _ c.before.requires.1 (λ j h. le_ltb j 0 (omega arith)))
+loop_holds c = (omega arith, lines_none _ _ _ c.before.requires.1 (λ j h. le-ltb j 0 (omega arith)))
 
 -- the line that is read is the one of before
 line : (c : tie.After-line-out invariant_loop decreases_loop) → c.line_out.result ≡ out_line c.before.before.before.before.before.args.flows c.before.before.before.before.before.args.place c.before.before.before.before.before.args.figures.now c.before.before.before.loop.l
@@ -30,7 +30,7 @@ line c =
     let a = c.before.before.before.before.before.args in
     let loop = c.before.before.before.loop in
     c.line_out.ensures
-    ∙ left_left _ a.flows a.place a.figures.now (λ j. ltb j loop.l) loop.figures loop.l loop.invariant.1 c.before.before.before.before.before.requires.0 (λ j h. le_ltb j loop.l h)
+    ∙ left_left _ a.flows a.place a.figures.now (λ j. ltb j loop.l) loop.figures loop.l loop.invariant.1 c.before.before.before.before.before.requires.0 (λ j h. le-ltb j loop.l h)
 
 put_line_requires : tie.Need-put-line-requires invariant_loop decreases_loop
 unfolding figure_in
@@ -51,7 +51,7 @@ loop_again c =
       omega arith,
       lines_more a.flows (λ k h. figure_in a.figures.now (before_out a.place k) (before_out a.place h)) _ (λ j. ltb j loop.l)
           (λ j. ltb j (loop.l + 1)) loop.l _ loop.figures _ (line c.before.before.before.before.before) c.before.before.put_line.ensures
-          (lt_ltb loop.l (loop.l + 1) (omega arith)) (one_more loop.l) loop.invariant.1,
+          (lt-ltb loop.l (loop.l + 1) (omega arith)) (one_more loop.l) loop.invariant.1,
     )
 
 same_length : tie.Need-same-length invariant_loop decreases_loop
@@ -62,7 +62,7 @@ unfolding without_figures
 returns c =
     let loop = c.before.loop in
     let all : loop.l ≡ most_flows = omega (arith, loop.invariant.0) in
-    lines_all _ _ _ loop.figures (λ j h. lt_ltb j most_flows h) (rw all at loop.invariant.1)
+    lines_all _ _ _ loop.figures (λ j h. lt-ltb j most_flows h) (rw all at loop.invariant.1)
 
 pub figures_out_spec : {M : Type 1} → statement M
 figures_out_spec =

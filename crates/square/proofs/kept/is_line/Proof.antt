@@ -7,7 +7,7 @@ use mathlib.Core.List.{List}
 use lib.Dec.{eqb}
 use lib.ListN.{get_or}
 use borrow.Author.Count.{below_more}
-use borrow.Author.Tests.{eq_eqb, ne_eqb}
+use borrow.Author.Tests.{eq-eqb, ne_eqb}
 use native.Mathlib.Omega.{arith}
 use Rattle.trade.specs.Limits.{most_flows}
 use Rattle.trade.specs.Kept.{figure_in}
@@ -39,7 +39,7 @@ returns c =
 
 loop_again : tie.Need-loop-preserved invariant_loop decreases_loop
 unfolding figure_in
-loop_again c = (omega arith, below_more _ _ c.before.before.before.before.loop.invariant.1 (rw (eq_eqb _ _ c.if1.false) refl))
+loop_again c = (omega arith, below_more _ _ c.before.before.before.before.loop.invariant.1 (rw (eq-eqb _ _ c.if1.false) refl))
 
 returns_2 : tie.Need-returns-2 invariant_loop decreases_loop
 returns_2 c =

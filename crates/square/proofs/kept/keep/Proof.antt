@@ -3,7 +3,7 @@
 use Prim.Native.Nat.{◌+◌, ◌-◌, ◌≤◌}
 use mathlib.Core.Path.{◌≡◌, refl, sym, ◌∙◌}
 use native.Mathlib.Omega.{arith}
-use borrow.Author.Tests.{lt_ltb, le_ltb}
+use borrow.Author.Tests.{lt-ltb, le-ltb}
 use lib.Dec.{ltb}
 use Rattle.trade.specs.Limits.{most_flows}
 use Rattle.trade.specs.Facts.{facts_in}
@@ -25,7 +25,7 @@ hear_above_requires : tie.Need-hear-above-requires invariant_loop decreases_loop
 hear_above_requires c κs = (c.before.before.before.before.before.requires.0, (refl, λ y h. zeros 64 y))
 
 loop_holds : tie.Need-loop-init invariant_loop decreases_loop
-loop_holds c = (omega arith, lines_none _ _ _ c.before.before.before.before.before.before.before.requires.1 (λ j h. le_ltb j 0 (omega arith)))
+loop_holds c = (omega arith, lines_none _ _ _ c.before.before.before.before.before.before.before.requires.1 (λ j h. le-ltb j 0 (omega arith)))
 
 slice_aggregate_line_at : tie.Need-slice-aggregate-line-at invariant_loop decreases_loop
 slice_aggregate_line_at c = sym c.before.before.before.before.hear_above.ensures.size
@@ -58,7 +58,7 @@ loop_again c =
       omega arith,
       lines_more a.flows (interference (facts_in 0 0 a.rows.now a.records.now a.steps.now)) _ (λ j. ltb j loop.l) (λ j. ltb j (loop.l + 1)) loop.l _
           loop.figures _ c.before.before.before.before.before.line_at_lem.ensures c.before.before.put_line.ensures
-          (lt_ltb loop.l (loop.l + 1) (omega arith)) (one_more loop.l) loop.invariant.1,
+          (lt-ltb loop.l (loop.l + 1) (omega arith)) (one_more loop.l) loop.invariant.1,
     )
 
 same_length : tie.Need-same-length invariant_loop decreases_loop
@@ -69,7 +69,7 @@ returns c =
     let a = c.before.before.before.before.before.before.before.before.before.args in
     let loop = c.before.loop in
     let all : loop.l ≡ most_flows = omega (arith, loop.invariant.0) in
-    lines_all _ _ _ loop.figures (λ j h. lt_ltb j most_flows h) (rw all at loop.invariant.1) ∙ figures_square a.flows a.rows.now a.records.now a.steps.now
+    lines_all _ _ _ loop.figures (λ j h. lt-ltb j most_flows h) (rw all at loop.invariant.1) ∙ figures_square a.flows a.rows.now a.records.now a.steps.now
 
 pub keep_spec : {M : Type 1} → statement M
 keep_spec =

@@ -6,7 +6,7 @@ use mathlib.Core.Bool.{false, not}
 use mathlib.Core.List.{List}
 use borrow.Author.Count.{below_more}
 use borrow.Author.Rules.{rules}
-use borrow.Author.Tests.{not_true, not_false}
+use borrow.Author.Tests.{not-true, not-false}
 use native.Mathlib.Omega.{arith}
 use Rattle.trade.specs.Layout.{sections}
 use Rattle.trade.specs.Kept.{Tabled, wrong_line, code17}
@@ -14,7 +14,7 @@ use Rattle.trade.proofs.Answers.{given_first_at, given_first_none}
 use Rattle.pairs.proofs.SpreadLaws.{zeros}
 use Rattle.sections.proofs.FormedLaws.{formed_less}
 use Rattle.figures.proofs.FiguresLaws.{all_heard}
-use Rattle.square.proofs.KeptLaws.{wrong_line_law}
+use Rattle.square.proofs.KeptLaws.{wrong_line_lem}
 use Rattle.square.proofs.kept.kept_answer.Statement.{statement}
 use Rattle.square.proofs.kept.kept_answer.Tie as tie
 
@@ -58,7 +58,7 @@ right : (c : tie.After-is-line invariant_loop decreases_loop) → c.is_line.resu
 right c =
     let a = c.before.before.before.before.before.before.before.before.before.before.before.before.before.args in
     rw c.before.before.figures_at.ensures at c.is_line.ensures
-    ∙ ap not (wrong_line_law a.flows a.rows.now a.records.now a.steps.now a.figures.now c.before.before.before.before.before.loop.l)
+    ∙ ap not (wrong_line_lem a.flows a.rows.now a.records.now a.steps.now a.figures.now c.before.before.before.before.before.loop.l)
 
 returns : tie.Need-returns invariant_loop decreases_loop
 unfolding code17
@@ -68,10 +68,10 @@ returns c =
     c.refused.ensures
     ∙ sym
     (given_first_at 17 (wrong_line (own s)) s.args.flows loop.l (omega arith) loop.invariant.1
-    (not_false _ (sym (right c.before.before) ∙ not_true _ c.before.if1.true)))
+    (not-false _ (sym (right c.before.before) ∙ not-true _ c.before.if1.true)))
 
 loop_again : tie.Need-loop-preserved invariant_loop decreases_loop
-loop_again c = (omega arith, below_more _ _ c.before.before.before.before.before.before.loop.invariant.1 (not_true _ (sym (right c.before) ∙ not_false _ c.if1.false)))
+loop_again c = (omega arith, below_more _ _ c.before.before.before.before.before.before.loop.invariant.1 (not-true _ (sym (right c.before) ∙ not-false _ c.if1.false)))
 
 returns_2 : tie.Need-returns-2 invariant_loop decreases_loop
 unfolding code17

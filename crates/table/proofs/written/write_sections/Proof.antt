@@ -23,14 +23,14 @@ of_size : (c : tie.Else1) → Sized (sections c.before.before.before.before.befo
 of_size c = sized (sections c.before.before.before.before.before.before.before.args.nodes c.before.before.before.before.before.before.before.args.flows c.before.before.before.before.before.before.before.args.rows.now c.before.before.before.before.before.before.before.args.records.now c.before.before.before.before.before.before.before.args.steps.now) (passes c)
 
 -- the sum of L is what the facts say, and everything is small
-all_steps_law : (c : tie.After-steps-before) → c.steps_before.result ≡ all_steps (facts_of (sections c.before.before.before.before.before.before.before.before.args.nodes c.before.before.before.before.before.before.before.before.args.flows c.before.before.before.before.before.before.before.before.args.rows.now c.before.before.before.before.before.before.before.before.args.records.now c.before.before.before.before.before.before.before.before.args.steps.now))
+all_steps_lem : (c : tie.After-steps-before) → c.steps_before.result ≡ all_steps (facts_of (sections c.before.before.before.before.before.before.before.before.args.nodes c.before.before.before.before.before.before.before.before.args.flows c.before.before.before.before.before.before.before.before.args.rows.now c.before.before.before.before.before.before.before.before.args.records.now c.before.before.before.before.before.before.before.before.args.steps.now))
 unfolding all_steps first_step facts_of
-all_steps_law c = c.steps_before.ensures.0
+all_steps_lem c = c.steps_before.ensures.0
 
 size : (c : tie.After-steps-before) → (c.before.before.before.before.before.before.before.before.args.nodes ≤ 64) × (c.before.before.before.before.before.before.before.before.args.flows ≤ 32) × (c.steps_before.result ≤ 1024)
 size c =
     let z = of_size c.before in
-    (z.nodes, z.flows, omega (arith, z.plans, z.flows, all_steps_law c))
+    (z.nodes, z.flows, omega (arith, z.plans, z.flows, all_steps_lem c))
 
 -- a buffer of so many bytes has room
 roomy :
@@ -45,11 +45,11 @@ roomy c room h =
       nodes = z.0;
       flows = z.1;
       plans = z.2;
-      all = all_steps_law c;
+      all = all_steps_lem c;
       rows = omega (arith, z.0, m.rows);
       records = omega (arith, z.1, m.records);
       steps = omega (arith, z.2, m.steps);
-      buffer = omega (arith, all_steps_law c, h);
+      buffer = omega (arith, all_steps_lem c, h);
     }
 
 -- and the length that is worked out is the book's

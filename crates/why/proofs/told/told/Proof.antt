@@ -5,7 +5,7 @@ use mathlib.Core.Bool.{Bool, true, false}
 use lib.Dec.{leb}
 use native.Mathlib.Omega.{arith}
 use borrow.Author.Rules.{rules}
-use borrow.Author.Tests.{lt_leb, le_leb, lt_ltb, le_ltb}
+use borrow.Author.Tests.{lt-leb, le-leb, lt-ltb, le-ltb}
 use Rattle.trade.specs.First.{sum_to}
 use Rattle.trade.specs.Bytes.{bit}
 use Rattle.trade.specs.Layout.{field}
@@ -31,17 +31,17 @@ state s = state_of s.args.run
 returns : tie.Need-returns
 returns c =
     let s = c.before.before.before.before.before.before in
-    sym (tells_unreleased (facts s) (begun_by (leb s.args.first.0 s.args.run.slot.0)) (state s) s.args.place (lt_leb _ _ c.if1.true))
+    sym (tells_unreleased (facts s) (begun_by (leb s.args.first.0 s.args.run.slot.0)) (state s) s.args.place (lt-leb _ _ c.if1.true))
 
 -- its first release has come
 begun : (c : tie.Else1) → why (facts c.before.before.before.before.before.before) (begun_by (leb c.before.before.before.before.before.before.args.first.0 c.before.before.before.before.before.before.args.run.slot.0)) (state c.before.before.before.before.before.before) c.before.before.before.before.before.before.args.place ≡ why (facts c.before.before.before.before.before.before) (begun_by true) (state c.before.before.before.before.before.before) c.before.before.before.before.before.before.args.place
-begun c = let s = c.before.before.before.before.before.before in ap (λ (b : Bool). why (facts s) (begun_by b) (state s) s.args.place) (le_leb _ _ c.if1.false)
+begun c = let s = c.before.before.before.before.before.before in ap (λ (b : Bool). why (facts s) (begun_by b) (state s) s.args.place) (le-leb _ _ c.if1.false)
 
 returns_2 : tie.Need-returns-2
 unfolding unfinished done_now state_of place_of facts_of
 returns_2 c =
     let s = c.before.before.before.before.before.before.before.before.before.before.before in
-    sym (begun c.before.before.before.before.before ∙ tells_finished (facts s) (begun_by true) (state s) s.args.place refl (le_ltb _ _ (rw c.before.len_at.ensures.0 at c.if2.true)))
+    sym (begun c.before.before.before.before.before ∙ tells_finished (facts s) (begun_by true) (state s) s.args.place refl (le-ltb _ _ (rw c.before.len_at.ensures.0 at c.if2.true)))
 
 -- it is unfinished
 busy : (c : tie.Else2) → (state c.before.before.before.before.before.before.before.before.before.before.before).done c.before.before.before.before.before.before.before.before.before.before.before.args.place < field c.before.before.before.before.before.before.before.before.before.before.before.args.records.now c.before.before.before.before.before.before.before.before.before.before.before.args.place 4
@@ -55,7 +55,7 @@ returns_3 c =
     let a = s.args in
     sym
     (begun c.before.before.before.before.before.before.before.before
-    ∙ tells_granted (facts s) (begun_by true) (state s) a.place refl (lt_ltb _ _ (busy c.before.before.before))
+    ∙ tells_granted (facts s) (begun_by true) (state s) a.place refl (lt-ltb _ _ (busy c.before.before.before))
     (sym (goes_is a.flows a.rows.now a.records.now a.steps.now s.requires.0 (state s) a.place s.requires.2 c.before.before.chosen.result c.before.before.chosen.ensures a.place)
     ∙ sym c.before.has_place.ensures
     ∙ c.if3.true))

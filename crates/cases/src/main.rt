@@ -1,4 +1,5 @@
 // Cases of the rules over the proved calls.
+#![tactic(auto)]
 mod books;
 mod desk;
 mod orders;

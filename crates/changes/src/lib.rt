@@ -1,4 +1,5 @@
 // Changes of a table: a flow added at a place, or removed.
+#![tactic(auto)]
 pub mod change;
 mod entering;
 mod leaving;

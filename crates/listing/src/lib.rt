@@ -1,3 +1,4 @@
 // What the programs print.
+#![tactic(auto)]
 pub mod lines;
 pub mod listed;

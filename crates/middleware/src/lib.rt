@@ -1,4 +1,5 @@
 // The calls of the middleware, written in C. Each answers one number: code × 65,536 plus the number that goes with the code.
+#![tactic(auto)]
 ghost use Rattle.middleware.specs.Calls.{AnswersWhy};
 
 use why::told::why;

@@ -7,7 +7,7 @@ use trade::Transmission;
 
 // The nodes that send, those that receive, those that a sender disturbs, and those that a receiver disturbs when it acknowledges. Each is a
 // mask of nodes.
-#[derive(Drop)]
+#[derive(Clone, Copy)]
 pub struct GrantSet {
     pub senders: u64,
     pub receivers: u64,

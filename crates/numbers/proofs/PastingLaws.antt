@@ -29,6 +29,12 @@ pasted at src d h =
     (sym (append_assoc (take at d) src (drop (at + length src) d)))
 
 -- what is put behind a list that stands at the front of the buffer
+-- the same where the part ends with the bytes
+pub pasted_whole : (at : ℕ) (src d : List ℕ) → put_mid at (at + length src - at) d src ≡ pasted_at at src d
+unfolding pasted_at
+pasted_whole at src d =
+    rw (Post-is at (at + length src) d (omega arith)) (sym (append_assoc (take at d) src (drop (at + length src) d)))
+
 pub pasted_next : (front src d : List ℕ) → pasted_at (length front) src (over front d) ≡ over (front ++ src) d
 unfolding pasted_at over
 pasted_next front src d =

@@ -1,3 +1,4 @@
 // Numbers in the bytes of a slice, and bytes put into a buffer.
+#![tactic(auto)]
 pub mod numbers;
 pub mod pasting;

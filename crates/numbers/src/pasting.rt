@@ -7,5 +7,5 @@ pub fn put_at(buffer: &mut [u8], at: usize, src: &[u8])
     requires { at + length src.now ≤ length buffer.old }
     ensures { buffer.new ≡ pasted_at at src.now buffer.old }
 {
-    bytes::copy(src, &mut buffer[at..]);
+    buffer[at..at + src.len()].copy_from_slice(src);
 }

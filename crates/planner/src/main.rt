@@ -3,6 +3,7 @@
 //   why [SLOTS]   in each of so many slots from the first on, of each flow, why it waits, or that it does not
 //
 // Any other arguments get a line that says how the program is used.
+#![tactic(auto)]
 mod reasons;
 mod words;
 

@@ -31,7 +31,7 @@ use Rattle.trade.proofs.Places.{alike_passed, alike_code9, alike_bounds}
 use Rattle.trade.proofs.Used.{Holds, used_same, table_same, table_facts, table_table, roomy, in_memory_holds, table_in_memory}
 use Rattle.trade.proofs.RoundTrip.{nine_by, book_said, kept_right, kept_then_check, write_then_check}
 use Rattle.trade.proofs.Kept.{figures_at}
-use Rattle.trade.proofs.Slot.{going_below, grants_append, length_grants}
+use Rattle.trade.proofs.SlotLaws.{going_below, grants_append, length_grants}
 use Rattle.trade.proofs.Prefix.{greedy_local, Behind, going_behind, prefix_runs}
 use Rattle.trade.proofs.Taken.{was_listed}
 use Rattle.trade.proofs.TakenRules.{alike_above}

@@ -7,7 +7,7 @@ use Rattle.trade.specs.Interference.{interference}
 use Rattle.trade.specs.Bound.{Measure, measure, bound_by}
 use Rattle.trade.specs.Slot.{Waits, greedy}
 use Rattle.trade.proofs.Fair.{fair_carry}
-use Rattle.trade.proofs.Slot.{Refuses, greedy_refuses}
+use Rattle.trade.proofs.SlotLaws.{Refuses, greedy_refuses}
 use Rattle.trade.proofs.Prefix.{Local, greedy_local}
 use Rattle.response.specs.Promise.{Covers}
 use Rattle.response.proofs.Greedy.{greedy_covers}

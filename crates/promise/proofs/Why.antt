@@ -24,7 +24,7 @@ use Rattle.trade.proofs.First.{not_both, and_true, first_before, first_holds, fi
 use Rattle.trade.proofs.Order.{among_at, place_of}
 use Rattle.trade.proofs.Answers.{given_true, given_false}
 use Rattle.trade.proofs.Valid.{same_flow}
-use Rattle.trade.proofs.Slot.{greedy_refuses}
+use Rattle.trade.proofs.SlotLaws.{greedy_refuses}
 use Rattle.trade.proofs.Why.{blocked_above, blocker_is}
 use Rattle.response.proofs.Cases.{by_test, by_order}
 use Rattle.response.proofs.Granted.{granted_below, granted_unfinished, granted_free}

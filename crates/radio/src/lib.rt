@@ -1,4 +1,5 @@
 // The three calls of the radio stack, written in C. Each answers one number: code × 65,536 plus the number that goes with the code.
+#![tactic(auto)]
 ghost use Rattle.radio.specs.Calls.{AnswersCheck, AnswersStart, AnswersAdvance};
 
 use bounds::acceptance::check;

@@ -15,6 +15,7 @@
 // its figures, those of unused places too. An answer is the code in two bytes, the number in eight, then the table that the call returns;
 // of write, the whole buffer; of check, of a slice or a table, the bounds of all flow places in two bytes each. The program ends at any
 // other call, at a request that is cut short, which gets no answer, or after the most requests of a run.
+#![tactic(auto)]
 mod input;
 mod output;
 

@@ -9,7 +9,7 @@ use borrow.Author.Tests.{ltb-true}
 use Rattle.trade.specs.Facts.{Facts}
 use Rattle.trade.specs.Conflict.{conflict}
 use Rattle.trade.specs.Slot.{State, Releases, done_now, unfinished, next_step, going, Waits, granted_by, among}
-use Rattle.trade.proofs.Slot.{going_below, going_stands, Refuses}
+use Rattle.trade.proofs.SlotLaws.{going_below, going_stands, Refuses}
 use Rattle.trade.proofs.Order.{among_at, conflicts_none, going_held, going_rising, going_once}
 
 module _ (waits : Waits) (f : Facts) (r : Releases) (s : State) where

@@ -9,7 +9,7 @@ use Rattle.trade.specs.Interference.{worst, matrix, interference}
 use Rattle.trade.specs.Bound.{by_interference}
 use Rattle.trade.specs.Slot.{State, Releases, done_now, unfinished, next_step, greedy, granted, among}
 use Rattle.trade.proofs.Conflict.{conflict_symmetric}
-use Rattle.trade.proofs.Slot.{Blocked, left_out_blocked}
+use Rattle.trade.proofs.SlotLaws.{Blocked, left_out_blocked}
 use Rattle.response.specs.Promise.{Covers}
 use Rattle.response.proofs.Worst.{worst_potential}
 

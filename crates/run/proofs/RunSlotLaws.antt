@@ -26,7 +26,7 @@ use Rattle.trade.specs.declared.state.Run.{Run}
 use Rattle.trade.proofs.First.{bool_cases, lt_or_ge}
 use Rattle.trade.proofs.Answers.{given_first_same}
 use Rattle.trade.proofs.Area.{place_byte}
-use Rattle.trade.proofs.Slot.{going_below}
+use Rattle.trade.proofs.SlotLaws.{going_below}
 use Rattle.trade.proofs.Alike.{alike_self}
 use Rattle.trade.proofs.Prefix.{Level, greedy_local, alike_granted, grants_among}
 use Rattle.sections.specs.Formed.{Formed}

@@ -24,7 +24,7 @@ use Rattle.trade.specs.declared.state.Grant.{Grant}
 use Rattle.trade.specs.declared.state.Progress.{Progress}
 use Rattle.trade.specs.declared.state.Run.{Run}
 use Rattle.trade.proofs.First.{bool_cases, and_true, lt_or_ge}
-use Rattle.trade.proofs.Slot.{going_goes, going_stays, going_stands, going_below, among_last, grants_append, length_grants}
+use Rattle.trade.proofs.SlotLaws.{going_goes, going_stays, going_stands, going_below, among_last, grants_append, length_grants}
 use Rattle.trade.proofs.Bytes.{length_over}
 use Rattle.nodes.proofs.MaskLaws.{bit_none}
 use Rattle.nodes.proofs.LowestLaws.{Lowest}

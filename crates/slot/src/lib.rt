@@ -1,4 +1,5 @@
 // One slot: releases, which flows go, and their grants.
+#![tactic(auto)]
 pub mod choice;
 pub mod granting;
 pub mod release;

@@ -1,4 +1,5 @@
 // Lists the book on standard input.
+#![tactic(auto)]
 use libc::STDIN_FILENO;
 
 // Only the bytes that fill the buffer count.

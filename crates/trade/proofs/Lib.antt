@@ -5,7 +5,7 @@ pub mod Conflict
 pub mod Interference
 pub mod Instances
 pub mod Bound
-pub mod Slot
+pub mod SlotLaws
 pub mod Why
 pub mod Order
 pub mod Answers

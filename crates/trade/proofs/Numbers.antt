@@ -24,7 +24,7 @@ use Rattle.trade.proofs.First.{bool_cases, first_within, or_false}
 use Rattle.trade.proofs.Sums.{sum_most}
 use Rattle.trade.proofs.Answers.{Passed, passed_none, passed_more, passed_head, passed_tail, passed_first, first_of_rule, given_passed}
 use Rattle.trade.proofs.Valid.{valid}
-use Rattle.trade.proofs.Slot.{going_goes, going_stays}
+use Rattle.trade.proofs.SlotLaws.{going_goes, going_stays}
 
 -- each rule's number fits, where the rules before it have passed
 pub data Fitting {A : Type 0} (x : A) : List (A → Answer) → Type 0 where

@@ -14,7 +14,7 @@ use Rattle.trade.specs.Conflict.{conflict, conflicts_with}
 use Rattle.trade.specs.Slot.{Rule, going, among}
 use Rattle.trade.specs.declared.node.Transmission.{Transmission}
 use Rattle.trade.proofs.First.{bool_cases, not_both, and_true, or_false, or_cases, or_right, lt_or_ge}
-use Rattle.trade.proofs.Slot.{going_goes, going_stays, going_other, going_below}
+use Rattle.trade.proofs.SlotLaws.{going_goes, going_stays, going_other, going_below}
 
 -- what stands at a place is among them
 pub among_at : (is : List ℕ) (a : ℕ) → a < length is → among is (get_or is a 0) ≡ true

@@ -15,7 +15,7 @@ use Rattle.trade.specs.Interference.{one, matrix}
 use Rattle.trade.specs.Slot.{State, at_start, Releases, released, instance_at, periodic, done_now, unfinished, next_step, Rule, going, Waits, greedy, granted_by, among, next_state_by, run_by, grant_of, grants_of}
 use Rattle.trade.specs.declared.node.Transmission.{Transmission}
 use Rattle.trade.proofs.First.{bool_cases, not_both, lt_or_ge, or_right}
-use Rattle.trade.proofs.Slot.{among_more, going_goes, going_stays, going_below, going_stands}
+use Rattle.trade.proofs.SlotLaws.{among_more, going_goes, going_stays, going_below, going_stands}
 use Rattle.trade.proofs.Alike.{Alike}
 
 -- transmissions that conflict alike at each flow of a list conflict alike with the list

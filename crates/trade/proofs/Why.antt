@@ -16,7 +16,7 @@ use Rattle.trade.specs.Slot.{State, Releases, released, periodic, done_now, unfi
 use Rattle.trade.specs.Why.{blocks, why}
 use Rattle.trade.specs.declared.told.Told.TheVariants.{NotReleased, Finished, Granted, WaitingOn}
 use Rattle.trade.proofs.First.{not_both, or_right, lt_or_ge, first_before, first_holds, first_unique, first_cong}
-use Rattle.trade.proofs.Slot.{left_out_blocked}
+use Rattle.trade.proofs.SlotLaws.{left_out_blocked}
 
 -- a flow's first release has come if it is due in the slot or came before it
 pub begun_is :

@@ -4,7 +4,7 @@ ghost use Rattle.trade.specs.Limits.{packing};
 ghost use Rattle.trade.specs.Answers.{done, refused, packed_of};
 
 // A code, 0 where the call is done, and the number that goes with it.
-#[derive(Drop)]
+#[derive(Clone, Copy)]
 pub struct Answer {
     pub code: u16,
     pub number: u64,

@@ -1,19 +1,19 @@
 // The three counters. Each is a type of its own, so that one in another's position stops the build.
 
 // A slot, counted from 0.
-#[derive(Drop)]
+#[derive(Clone, Copy)]
 pub struct Slot(pub u32);
 
 // An instance of a flow, counted from 0.
-#[derive(Drop)]
+#[derive(Clone, Copy)]
 pub struct Instance(pub u32);
 
 // A step of a plan, counted from 0, or a count of steps done.
-#[derive(Drop)]
+#[derive(Clone, Copy)]
 pub struct Step(pub u8);
 
 // The slot clock.
-#[derive(Drop)]
+#[derive(Clone, Copy)]
 pub struct Clock;
 
 impl Clock {

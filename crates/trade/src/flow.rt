@@ -1,7 +1,7 @@
 // Flows, and the plans that they follow.
 
 // A flow as its record in a book has it: its id, the slot of its first release, its period, its deadline and the length of its plan.
-#[derive(Drop)]
+#[derive(Clone, Copy)]
 pub struct Flow {
     pub id: u16,
     pub phase: u16,
@@ -24,7 +24,7 @@ impl Flow {
 }
 
 // The steps of a flow, each a transmission.
-#[derive(Drop)]
+#[derive(Clone, Copy)]
 pub struct Plan;
 
 impl Plan {

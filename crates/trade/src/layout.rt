@@ -1,5 +1,5 @@
 // A flow book, as bytes: rows, records, steps and a trailer.
-#[derive(Drop)]
+#[derive(Clone, Copy)]
 pub struct Book;
 
 impl Book {

@@ -1,4 +1,5 @@
 // The words of the trade, and the figures that bound them.
+#![tactic(auto)]
 pub mod answer;
 pub mod clock;
 pub mod flow;

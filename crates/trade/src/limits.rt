@@ -9,7 +9,7 @@ use crate::layout::Book;
 use crate::node::Node;
 use crate::state::{Grant, Run};
 
-#[derive(Drop)]
+#[derive(Clone, Copy)]
 pub struct Limits {
     pub nodes: usize,
     pub flows: usize,

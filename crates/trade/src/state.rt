@@ -7,7 +7,7 @@ use crate::flow::Flow;
 use crate::node::Transmission;
 
 // How far a flow is: the steps done by its latest instance.
-#[derive(Drop)]
+#[derive(Clone, Copy)]
 pub struct Progress {
     pub done: Step,
 }
@@ -22,7 +22,7 @@ impl Progress {
 }
 
 // The slot to run next, and how far the flow at each place is.
-#[derive(Drop)]
+#[derive(Clone, Copy)]
 pub struct Run {
     pub slot: Slot,
     pub flows: [Progress; Flow::MOST],
@@ -46,7 +46,7 @@ impl Run {
 }
 
 // Leave for one step of one instance of a flow to be sent.
-#[derive(Drop)]
+#[derive(Clone, Copy)]
 pub struct Grant {
     pub id: u16,
     pub instance: Instance,

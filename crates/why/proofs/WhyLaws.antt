@@ -25,7 +25,7 @@ use Rattle.trade.specs.declared.state.Run.{Run}
 use Rattle.trade.specs.declared.told.Told.TheVariants.{Refused, WaitingOn}
 use Rattle.trade.proofs.First.{bool_cases, first_cong}
 use Rattle.trade.proofs.Answers.{done_first, refused_second}
-use Rattle.trade.proofs.Slot.{going_below}
+use Rattle.trade.proofs.SlotLaws.{going_below}
 use Rattle.trade.proofs.Why.{begun_is, tells_waiting, blocked_above, blocker_is, why_same}
 use Rattle.nodes.specs.Network.{Within}
 use Rattle.plans.specs.Plan.{plan_step}

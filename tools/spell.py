@@ -21,7 +21,7 @@ USE = re.compile(r"\buse ([^\s;{]+?)\.?\{([^}]*)\}")
 DECLARED = re.compile(r"^ *(?:(?:abbrev|unfoldable|opaque|pub|pattern) +)*([^\s(){}\[\];,.\"|]+)(?: \{[^{}\n]*\})* :(?= |$)", re.M)
 MADE = ("#", "Need-", "After-", "In-loop", "At-loop", "Goes-none", "Known-")
 # lemmas that would be called as the definition that they speak of
-LEMMAS = """advance-answer all-steps area-before bad-record bad-row bad-step before-clock check-answer clock-only first-of-plan flow-count
+LEMMAS = """advance-answer all-steps area-before bad-record bit-and bit-or bit-xor bad-row bad-step before-clock check-answer clock-only first-of-plan flow-count
 grant-at is-done no-mark node-count old-then records-distance rows-distance start-answer steps-distance trailer-bytes with-figures
 wrong-line""".split()
 # words that already had today's spelling, and in this file alone would be called as a definition that the file speaks of

@@ -9,7 +9,7 @@ use Rattle.trade.specs.Facts.{step_in}
 use Rattle.trade.specs.Interference.{Matrix, worst_path}
 use Rattle.trade.proofs.First.{lt_or_ge}
 use Rattle.trade.proofs.Sums.{sum_next}
-use Rattle.nodes.proofs.MaskLaws.{bit_none, bit_or, bit_below, bit_above, bit_past}
+use Rattle.nodes.proofs.MaskLaws.{bit_none, bit_or_lem, bit_below, bit_above, bit_past}
 use Rattle.plans.specs.Plan.{steps_in}
 use Rattle.pairs.specs.Columns.{marked_at, Narrow, matrix_by}
 use Rattle.sections.specs.Formed.{plan_start, plan_at}
@@ -78,7 +78,7 @@ laying_more columns h at j m before words room inside marks s =
 
     here : (i y : ℕ) → i ≡ j → bit (get_or (set words j put) i 0) y ≡ (bit (get_or before i 0) y || bit ((m * 2 ^ at) % 2 ^ 64) y)
     here i y q =
-        rw (q, get_or-set_same words j put 0 room) (bit_or (get_or words j 0) ((m * 2 ^ at) % 2 ^ 64) y ∙ rw (s.others j (omega arith)) refl)
+        rw (q, get_or-set_same words j put 0 room) (bit_or_lem (get_or words j 0) ((m * 2 ^ at) % 2 ^ 64) y ∙ rw (s.others j (omega arith)) refl)
 
     here_at :
         (i b : ℕ)
@@ -176,7 +176,7 @@ ends_more n lanes ends end is s =
     }
   where
     both : (y : ℕ) → bit (bit_or ends end) y ≡ (bit ends y || eqb (lane_at n lanes + n) y)
-    both y = bit_or ends end y ∙ rw (is y) refl
+    both y = bit_or_lem ends end y ∙ rw (is y) refl
 
     apart : (y : ℕ) → (lane_at n lanes + n ≡ y → ⊥) → eqb (lane_at n lanes + n) y ≡ false
     apart y d = ne_eqb (lane_at n lanes + n) y d

@@ -9,7 +9,7 @@ use Rattle.trade.specs.Interference.{Matrix, one, worst}
 use Rattle.trade.proofs.First.{lt_or_ge, bool_cases, not_both}
 use Rattle.trade.proofs.Sums.{largest_below}
 use Rattle.trade.proofs.Interference.{worst_past, worst_row}
-use Rattle.nodes.proofs.MaskLaws.{bit_zero, bit_suc, last_cases, bit_or, bit_and, bit_xor, bit_below}
+use Rattle.nodes.proofs.MaskLaws.{bit_zero, bit_suc, last_cases, bit_or_lem, bit_and_lem, bit_xor_lem, bit_below}
 use Rattle.figures.specs.Rises.{lane_at, rise_at, before, Says, Low, Unmarked, over, Shifts, Ends}
 use Rattle.figures.specs.declared.rises.Rises.{Rises}
 
@@ -140,7 +140,7 @@ rise_small line b = rw (rise_six line b) (six_small _ _ _ _ _ _)
 module _ (line : Rises) (up down b : ℕ) where
   shifted_at : rise_at (shifted_line line up down) b ≡ bits_at (after_six (bit down b) (bit up b || bit down b)) line b
   unfolding rise_at six after_six
-  shifted_at = simp (bit_xor, bit_and, bit_or)
+  shifted_at = simp (bit_xor_lem, bit_and_lem, bit_or_lem)
 
   shifted_more : bit up b ≡ true → bit down b ≡ false → rise_at (shifted_line line up down) b ≡ (rise_at line b + 1) % 64
   unfolding one
@@ -502,12 +502,12 @@ rising_fits line w =
 
 through_free : (line : Rises) → rising_in line < 2 ^ 64 → (marks b : ℕ) → b < 64 → bit (through_of line marks) b ≡ (bit marks b || eqb (rise_at line b) 0)
 through_free line fits marks b h =
-    bit_or marks (18446744073709551615 - rising_in line) b
+    bit_or_lem marks (18446744073709551615 - rising_in line) b
     ∙ ap (λ (x : Bool). bit marks b || x)
-    (others 64 (rising_in line) b fits h ∙ simp bit_or (sym (ap (λ (n : ℕ). eqb n 0) (rise_six line b) ∙ six_none _ _ _ _ _ _)))
+    (others 64 (rising_in line) b fits h ∙ simp bit_or_lem (sym (ap (λ (n : ℕ). eqb n 0) (rise_six line b) ∙ six_none _ _ _ _ _ _)))
 
 through_among : (line : Rises) (marks b : ℕ) → bit marks b ≡ true → bit (through_of line marks) b ≡ true
-through_among line marks b m = bit_or marks (18446744073709551615 - rising_in line) b ∙ rw m refl
+through_among line marks b m = bit_or_lem marks (18446744073709551615 - rising_in line) b ∙ rw m refl
 
 -- a number cut to 64 bits keeps them
 pub low_bit : (n b : ℕ) → b < 64 → bit (n % 2 ^ 64) b ≡ bit n b
@@ -533,13 +533,13 @@ module _ (through marks : ℕ) (among : (b : ℕ) → bit marks b ≡ true → b
 
   ups_are : (b : ℕ) → b < 64 → bit (bit_and marks (bit_xor marks sum)) b ≡ (bit marks b && not (carry through marks b))
   ups_are b h =
-      bit_and marks (bit_xor marks sum) b
-      ∙ rw (bit_xor marks sum b, low_bit (through + marks) b h, sum_carry through marks among b) (marked_sum (bit marks b) (bit through b) (carry through marks b) (among b))
+      bit_and_lem marks (bit_xor marks sum) b
+      ∙ rw (bit_xor_lem marks sum b, low_bit (through + marks) b h, sum_carry through marks among b) (marked_sum (bit marks b) (bit through b) (carry through marks b) (among b))
 
   downs_are : (b : ℕ) → b < 64 → bit (bit_and sum (bit_xor sum through)) b ≡ (carry through marks b && not (bit through b))
   downs_are b h =
-      bit_and sum (bit_xor sum through) b
-      ∙ rw (bit_xor sum through b, low_bit (through + marks) b h, sum_carry through marks among b) (open_sum (bit marks b) (bit through b) (carry through marks b) (among b))
+      bit_and_lem sum (bit_xor sum through) b
+      ∙ rw (bit_xor_lem sum through b, low_bit (through + marks) b h, sum_carry through marks among b) (open_sum (bit marks b) (bit through b) (carry through marks b) (among b))
 
 -- THE MARKS, by the words of the code
 pub column_says :

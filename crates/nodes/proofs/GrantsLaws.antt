@@ -15,7 +15,7 @@ use Rattle.nodes.specs.Network.{Within}
 use Rattle.nodes.specs.Mask.{only, meets, row_mask}
 use Rattle.nodes.specs.Grants.{no_grants, clashes_with, one_more, Holds}
 use Rattle.nodes.specs.declared.grants.GrantSet.{GrantSet}
-use Rattle.nodes.proofs.MaskLaws.{bit_none, bit_or, bit_only, bit_row, meets_or, meets_only}
+use Rattle.nodes.proofs.MaskLaws.{bit_none, bit_or_lem, bit_only, bit_row, meets_or, meets_only}
 
 -- four tests in two pairs
 or_pairs : (p q r s : Bool) → ((p || q) || (r || s)) ≡ ((p || r) || (q || s))
@@ -88,7 +88,7 @@ module _ (rows : List ℕ) (small : (i : ℕ) → byte rows i < 2 ^ 8) where
       → bit (bit_or (bit_or (bit_or senders (only c)) (bit_or receivers (only d))) (bit_or others row)) x
       ≡ (bit (bit_or (bit_or senders receivers) others) x || ((eqb c x || eqb d x) || bit row x))
   bit_three senders receivers others row c d x =
-      simp (bit_or, bit_only)
+      simp (bit_or_lem, bit_only)
       (three (bit senders x) (eqb c x) (bit receivers x) (eqb d x) (bit others x) (bit row x))
 
   -- a row that meets a set of nodes, one more in it

@@ -56,9 +56,9 @@ module _ (op : ℕ → ℕ → ℕ) (test : Bool → Bool → Bool)
   bit_by a b (suc y) = rw (bit_suc (op a b) y, bit_suc a y, bit_suc b y, shr a b 1) (bit_by (a / 2) (b / 2) y)
 
 -- a node is in a union if it is in either, in a common part if it is in both, and in a difference if it is in one of the two
-pub bit_or : (a b y : ℕ) → bit (bit_or a b) y ≡ (bit a y || bit b y)
+pub bit_or_lem : (a b y : ℕ) → bit (bit_or a b) y ≡ (bit a y || bit b y)
 unfolding one
-bit_or = bit_by bit_or ◌||◌ or_shr or_mod last
+bit_or_lem = bit_by bit_or ◌||◌ or_shr or_mod last
   where
     last : (p q : Bool) → eqb (bit_or (one p) (one q)) 1 ≡ (p || q)
     last true true = refl
@@ -66,9 +66,9 @@ bit_or = bit_by bit_or ◌||◌ or_shr or_mod last
     last false true = refl
     last false false = refl
 
-pub bit_and : (a b y : ℕ) → bit (bit_and a b) y ≡ (bit a y && bit b y)
+pub bit_and_lem : (a b y : ℕ) → bit (bit_and a b) y ≡ (bit a y && bit b y)
 unfolding one
-bit_and = bit_by bit_and ◌&&◌ and_shr and_mod last
+bit_and_lem = bit_by bit_and ◌&&◌ and_shr and_mod last
   where
     last : (p q : Bool) → eqb (bit_and (one p) (one q)) 1 ≡ (p && q)
     last true true = refl
@@ -76,9 +76,9 @@ bit_and = bit_by bit_and ◌&&◌ and_shr and_mod last
     last false true = refl
     last false false = refl
 
-pub bit_xor : (a b y : ℕ) → bit (bit_xor a b) y ≡ cond (bit a y) (not (bit b y)) (bit b y)
+pub bit_xor_lem : (a b y : ℕ) → bit (bit_xor a b) y ≡ cond (bit a y) (not (bit b y)) (bit b y)
 unfolding one
-bit_xor = bit_by bit_xor (λ p q. cond p (not q) q) xor_shr xor_mod last
+bit_xor_lem = bit_by bit_xor (λ p q. cond p (not q) q) xor_shr xor_mod last
   where
     last : (p q : Bool) → eqb (bit_xor (one p) (one q)) 1 ≡ cond p (not q) q
     last true true = refl

@@ -20,7 +20,7 @@ use Rattle.trade.specs.declared.node.Transmission.{Transmission}
 use Rattle.trade.proofs.First.{lt_or_ge, bool_cases, some_true, some_false, some_intro, some_none}
 use Rattle.nodes.specs.Mask.{only, row_mask}
 use Rattle.pairs.specs.Columns.{Spread, from_end, ending, Heard, receiving, sending, Columns, Noted}
-use Rattle.nodes.proofs.MaskLaws.{bit_none, bit_or, bit_and, bit_xor, bit_only, bit_below, bit_past}
+use Rattle.nodes.proofs.MaskLaws.{bit_none, bit_or_lem, bit_and_lem, bit_xor_lem, bit_only, bit_below, bit_past}
 use Rattle.nodes.proofs.LowestLaws.{Lowest}
 
 -- so many zeros, and zeros past them
@@ -97,7 +97,7 @@ module _ (nodes mark : ℕ) (before : List ℕ) where
 -- what a node sends is in the upper half of a number, what another receives in the lower half of another
 pub halves_or : (sent received b : ℕ) → sent < 2 ^ 64 → bit (bit_or (sent / 2 ^ 32) (received % 2 ^ 32)) b ≡ (ltb b 32 && (bit sent (32 + b) || bit received b))
 unfolding bit
-halves_or sent received b fits = bit_or (sent / 2 ^ 32) (received % 2 ^ 32) b ∙ ⊎_elim inside past (lt_or_ge b 32)
+halves_or sent received b fits = bit_or_lem (sent / 2 ^ 32) (received % 2 ^ 32) b ∙ ⊎_elim inside past (lt_or_ge b 32)
   where
     upper : bit (sent / 2 ^ 32) b ≡ bit sent (32 + b)
     upper = ap (λ (n : ℕ). eqb (n % 2) 1) (shr-shr sent 32 b)
@@ -125,7 +125,7 @@ pub spread_bit :
     → bit (get_or after x 0) y ≡ (bit (get_or before x 0) y || (eqb b y && bit nodes x))
 spread_bit nodes b before after s x y =
     ap (λ (n : ℕ). bit n y) (s.marked x)
-    ∙ bit_or (get_or before x 0) (cond (bit nodes x) (2 ^ b) 0) y
+    ∙ bit_or_lem (get_or before x 0) (cond (bit nodes x) (2 ^ b) 0) y
     ∙ ap (λ (t : Bool). bit (get_or before x 0) y || t) (bit_mark (bit nodes x) b y)
 
 -- the bits before a place, and the one at it, are those before the next
@@ -164,12 +164,12 @@ module _ (u : Transmission) where
   -- the two ends of a transmission, and a set
   pub both_ends : (x : ℕ) → bit (bit_or (only u.sender.0) (only u.receiver.0)) x ≡ ending u x
   unfolding ending
-  both_ends x = bit_or (only u.sender.0) (only u.receiver.0) x ∙ ap₂ ◌||◌ (bit_only u.sender.0 x) (bit_only u.receiver.0 x)
+  both_ends x = bit_or_lem (only u.sender.0) (only u.receiver.0) x ∙ ap₂ ◌||◌ (bit_only u.sender.0 x) (bit_only u.receiver.0 x)
 
   pub ends : (set x : ℕ) → bit (bit_or set (bit_or (only u.sender.0) (only u.receiver.0))) x ≡ (eqb u.sender.0 x || eqb u.receiver.0 x || bit set x)
   unfolding ending
   ends set x =
-      bit_or set (bit_or (only u.sender.0) (only u.receiver.0)) x
+      bit_or_lem set (bit_or (only u.sender.0) (only u.receiver.0)) x
       ∙ or_comm (bit set x) (bit (bit_or (only u.sender.0) (only u.receiver.0)) x)
       ∙ ap (λ (t : Bool). t || bit set x) (both_ends x)
 
@@ -182,8 +182,8 @@ module _ (u : Transmission) where
       → bit (bit_or (bit_or nodes (only u.sender.0)) (only u.receiver.0)) x ≡ some (λ i. test i x) (suc j)
   unfolding ending
   ends_more nodes j test is s x =
-      bit_or (bit_or nodes (only u.sender.0)) (only u.receiver.0) x
-      ∙ rw (bit_or nodes (only u.sender.0) x, bit_only u.sender.0 x, bit_only u.receiver.0 x, s x)
+      bit_or_lem (bit_or nodes (only u.sender.0)) (only u.receiver.0) x
+      ∙ rw (bit_or_lem nodes (only u.sender.0) x, bit_only u.sender.0 x, bit_only u.receiver.0 x, s x)
       (or_assoc (some (λ i. test i x) j) (eqb u.sender.0 x) (eqb u.receiver.0 x) ∙ rw (← is x) (sym (some_next (λ i. test i x) j)))
 
   -- two marks, those of both sets spread first and at once
@@ -209,11 +209,11 @@ module _ (u : Transmission) where
       shared_bit : (x y : ℕ) → bit (get_or shared x 0) y ≡ (bit (get_or before x 0) y || ((eqb b y || eqb (most_steps + b) y) && (bit receivers x && bit senders x)))
       shared_bit x y =
           ap (λ (n : ℕ). bit n y) (o.marked x)
-          ∙ bit_or (get_or before x 0) (cond (bit (bit_and receivers senders) x) (bit_or (2 ^ b) (2 ^ (most_steps + b))) 0) y
-          ∙ rw (bit_and receivers senders x) (ap (λ (t : Bool). bit (get_or before x 0) y || t) (marks (bit receivers x && bit senders x) y))
+          ∙ bit_or_lem (get_or before x 0) (cond (bit (bit_and receivers senders) x) (bit_or (2 ^ b) (2 ^ (most_steps + b))) 0) y
+          ∙ rw (bit_and_lem receivers senders x) (ap (λ (t : Bool). bit (get_or before x 0) y || t) (marks (bit receivers x && bit senders x) y))
         where
           marks : (c : Bool) (y : ℕ) → bit (cond c (bit_or (2 ^ b) (2 ^ (most_steps + b))) 0) y ≡ ((eqb b y || eqb (most_steps + b) y) && c)
-          marks true y = bit_or (2 ^ b) (2 ^ (most_steps + b)) y ∙ ap₂ ◌||◌ (bit_only b y) (bit_only (most_steps + b) y) ∙ sym (and-true (eqb b y || eqb (most_steps + b) y))
+          marks true y = bit_or_lem (2 ^ b) (2 ^ (most_steps + b)) y ∙ ap₂ ◌||◌ (bit_only b y) (bit_only (most_steps + b) y) ∙ sym (and-true (eqb b y || eqb (most_steps + b) y))
           marks false y = bit_none y ∙ sym (and-false (eqb b y || eqb (most_steps + b) y))
 
       at :
@@ -227,9 +227,9 @@ module _ (u : Transmission) where
           ∙ rw (
             spread_bit (bit_xor receivers (bit_and receivers senders)) b shared between p x y,
             shared_bit x y,
-            bit_xor senders (bit_and receivers senders) x,
-            bit_xor receivers (bit_and receivers senders) x,
-            bit_and receivers senders x,
+            bit_xor_lem senders (bit_and receivers senders) x,
+            bit_xor_lem receivers (bit_and receivers senders) x,
+            bit_and_lem receivers senders x,
           )
           refl
 

@@ -19,11 +19,11 @@ use Rattle.trade.specs.Facts.{Facts, facts_of, facts_in, first_step, step_of}
 use Rattle.trade.specs.Slot.{State, going, greedy, granted_by, among, done_now, unfinished, next_step}
 use Rattle.trade.specs.declared.node.Transmission.{Transmission}
 use Rattle.trade.proofs.First.{bool_cases, and_true, lt_or_ge}
-use Rattle.trade.proofs.SlotLaws.{going_goes, going_stays, among_last, among_more}
+use Rattle.trade.proofs.Slot.{going_goes, going_stays, among_last, among_more}
 use Rattle.nodes.specs.Network.{Within}
 use Rattle.nodes.specs.Grants.{Holds, Fresh, clashes_with}
 use Rattle.nodes.specs.declared.grants.GrantSet.{GrantSet}
-use Rattle.nodes.proofs.MaskLaws.{bit_none, bit_or, bit_only}
+use Rattle.nodes.proofs.MaskLaws.{bit_none, bit_or_lem, bit_only}
 use Rattle.plans.specs.Plan.{steps_in, no_step, plan_step}
 use Rattle.sections.specs.Formed.{Formed}
 use Rattle.sections.proofs.FormedLaws.{plan_ends}
@@ -121,9 +121,9 @@ module _ (flows : ℕ) (rows records steps : List ℕ) (state : State) where
               ⊎_elim
               (λ (q : eqb i k ≡ true).
               let same : i ≡ k = eqb-true i k q in
-              rw (bit_or, bit_only i k, q, or-true (bit places k)) (sym (among_last (goers i) i) ∙ ap (λ (j : ℕ). among (goers i ++ (i ∷ [])) j) same))
+              rw (bit_or_lem, bit_only i k, q, or-true (bit places k)) (sym (among_last (goers i) i) ∙ ap (λ (j : ℕ). among (goers i ++ (i ∷ [])) j) same))
               (λ (q : eqb i k ≡ false).
-              rw (bit_or, bit_only i k, q, or-false (bit places k)) (so.there k ∙ sym (among_more (goers i) i k (eqb-false i k q))))
+              rw (bit_or_lem, bit_only i k, q, or-false (bit places k)) (so.there k ∙ sym (among_more (goers i) i k (eqb-false i k q))))
               (bool_cases (eqb i k))
 
           sends_next : (k : ℕ) → sent_at (lists.set sent i r.step) k ≡ cond (among (goers i ++ (i ∷ [])) k) (next_step facts none_due state k) no_step

@@ -12,7 +12,7 @@ use Rattle.trade.specs.Facts.{disturbs_in}
 use Rattle.trade.specs.declared.node.Transmission.{Transmission}
 use Rattle.nodes.specs.Mask.{row_mask}
 use Rattle.pairs.specs.Columns.{near, receiving, sending}
-use Rattle.nodes.proofs.MaskLaws.{bit_or, bit_row, one_bit}
+use Rattle.nodes.proofs.MaskLaws.{bit_or_lem, bit_row, one_bit}
 use Rattle.pairs.proofs.SpreadLaws.{noted, ends}
 use borrow.Author.Rules.{rules}
 use Rattle.pairs.proofs.columns.note.Statement.{statement}
@@ -48,7 +48,7 @@ returns c =
         → bit (row_mask rows y) x ≡ disturbs_in rows y x
         → (e : Bool)
         → (e || bit (bit_or (row_mask rows y) (get_or heard y 0)) x) ≡ (e || (disturbs_in rows y x || bit (get_or heard y 0) x))
-    near_set rows heard y x row e = ap (λ (t : Bool). e || t) (bit_or (row_mask rows y) (get_or heard y 0) x ∙ ap (λ (t : Bool). t || bit (get_or heard y 0) x) row)
+    near_set rows heard y x row e = ap (λ (t : Bool). e || t) (bit_or_lem (row_mask rows y) (get_or heard y 0) x ∙ ap (λ (t : Bool). t || bit (get_or heard y 0) x) row)
 
 pub note_spec : {M : Type 1} → statement M
 note_spec =

@@ -1,13 +1,8 @@
 -- `nodes::mask::joined`: what is shifted past the lower part has no bit in common with it. Assumes nothing.
-
 use native.Mathlib.Nat.{mod-eq_of_lt}
 use lib.Bits.{or_shifted}
 use borrow.Author.Rules.{rules}
-use Rattle.nodes.proofs.mask.joined.Statement.{statement}
-use Rattle.nodes.proofs.mask.joined.Tie as tie
+use Rattle.nodes.proofs.mask.joined.Goals as goal
 
-returns : tie.Need-returns
+pub returns : goal.returns
 returns c = rw (mod-eq_of_lt c.requires.2) (or_shifted c.args.high c.args.bits c.args.low c.requires.1)
-
-pub joined_spec : {M : Type 1} → statement M
-joined_spec = tie.close (tie.spec (λ c. search rules) returns)

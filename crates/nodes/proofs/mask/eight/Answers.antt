@@ -1,0 +1,19 @@
+-- `nodes::mask::eight` joins two halves, each of which fits. Assumes nothing.
+use mathlib.Core.Path.{◌∙◌}
+use native.Mathlib.Omega.{arith}
+use Rattle.nodes.proofs.MaskLaws.{halves_fit, halves_joined}
+use borrow.Author.Rules.{rules}
+use Rattle.nodes.proofs.mask.eight.Goals as goal
+
+pub joined-requires : goal.joined-requires
+joined-requires c =
+    let args = c.args in
+    let fit =
+    halves_fit args.bytes.now 4 args.at c.four.ensures c.four-2.ensures
+    (λ i. omega (arith, c.type_inv.bytes i)) in
+    omega arith
+
+pub returns : goal.returns
+returns c =
+    let args = c.args in
+    c.joined.ensures ∙ halves_joined args.bytes.now 4 args.at c.four.ensures c.four-2.ensures

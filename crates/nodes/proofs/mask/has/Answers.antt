@@ -1,0 +1,9 @@
+-- `nodes::mask::has` reads one bit. Assumes nothing.
+use mathlib.Core.Path.{refl}
+use Rattle.trade.specs.Bytes.{bit}
+use borrow.Author.Rules.{rules}
+use Rattle.nodes.proofs.mask.has.Goals as goal
+
+pub returns : goal.returns
+unfolding bit
+returns c = refl

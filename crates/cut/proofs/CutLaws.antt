@@ -2,26 +2,28 @@
 -- them. Leans on the numbers' PastingLaws and the trade's Exchange. Assumes nothing.
 use Prim.Native.Nat.{ℕ, suc, ◌+◌, ◌-◌, ◌≤◌, ◌<◌}
 use mathlib.Core.Path.{◌≡◌, refl, sym, ◌∙◌, ap, ap₂}
-use mathlib.Core.List.{List, [], ◌++◌, append_assoc, append-nil, reverse-append, reverse-reverse}
+use mathlib.Core.List.{List, [], ◌++◌, append_assoc, append-nil, reverse, reverse-append, reverse-reverse}
 use native.Mathlib.Omega.{arith}
 use lib.ListN.{length, take, drop, set, replicate, length-append, length-drop, length-replicate, get_or-replicate, take-append-drop, drop_of_length-le, length-reverse}
 use lib.Seq.{length-take-le, take_all, take-take, take-add, take_at, drop_at, length-slice, paste, paste-zero, paste-suc, length-paste}
+use borrow.Rule.Slice.PartMut.{mid_of, put_mid, Post-is}
+use Rattle.std.proofs.lemmas.List.{drop-take}
 use Rattle.trade.specs.Bytes.{part, padded, over}
 use Rattle.trade.specs.Exchange.{spliced}
 use Rattle.trade.proofs.Bytes.{take_over}
 use Rattle.trade.proofs.Exchange.{length_spliced}
 use Rattle.numbers.specs.Pasting.{pasted_at}
 use Rattle.numbers.proofs.PastingLaws.{pasted_first}
-use Rattle.bytes.specs.Bytes.{rev, slice}
+use lib.Seq.{slice}
 use Rattle.cut.specs.Turned.{turned}
 
 -- A LIST IN PARTS: what stands before a place, up to a second, up to a third, and behind it
 length_part : (from to : ℕ) (l : List ℕ) → to ≤ length l → length (slice from to l) ≡ to - from
-unfolding slice
+
 length_part from to l h = length-slice from to l h
 
 two_parts : (from to : ℕ) (l : List ℕ) → from ≤ to → take to l ≡ take from l ++ slice from to l
-unfolding slice
+
 two_parts from to l h = sym (take-append-drop from (take to l)) ∙ ap (λ (a : List ℕ). a ++ drop from (take to l)) (take-take from to l h)
 
 in_parts :
@@ -36,14 +38,14 @@ in_parts from middle to l h g =
 
 -- one part reversed where it stands
 abbrev flipped : ℕ → ℕ → List ℕ → List ℕ
-flipped from to l = take from l ++ (rev (slice from to l) ++ drop to l)
+flipped from to l = take from l ++ (reverse (slice from to l) ++ drop to l)
 
 flipped_part :
     (from to : ℕ) (a p r : List ℕ)
     → length a ≡ from
     → from + length p ≡ to
-    → flipped from to (a ++ (p ++ r)) ≡ a ++ (rev p ++ r)
-unfolding slice
+    → flipped from to (a ++ (p ++ r)) ≡ a ++ (reverse p ++ r)
+
 flipped_part from to a p r e f =
     let both : length (a ++ p) ≡ to = length-append a p ∙ ap (λ (n : ℕ). n + length p) e ∙ f in
     rw (
@@ -61,7 +63,7 @@ turned_parts :
     → from + length p ≡ middle
     → middle + length q ≡ to
     → turned from middle to (a ++ (p ++ (q ++ r))) ≡ a ++ (q ++ (p ++ r))
-unfolding turned slice
+unfolding turned
 turned_parts from middle to a p q r e f g =
     let two : length (a ++ p) ≡ middle = length-append a p ∙ ap (λ (n : ℕ). n + length p) e ∙ f in
     let three : length (a ++ p ++ q) ≡ to = length-append (a ++ p) q ∙ ap (λ (n : ℕ). n + length q) two ∙ g in
@@ -76,6 +78,17 @@ turned_parts from middle to a p q r e f g =
       drop_at (a ++ p ++ q) r to three,
     )
 
+-- a part that is lent and comes back reversed
+pub reversed_part :
+    (from to : ℕ) (l part : List ℕ)
+    → from ≤ to
+    → part ≡ reverse (mid_of from (to - from) l)
+    → put_mid from (to - from) l part ≡ flipped from to l
+reversed_part from to l part h e =
+    let whole : from + (to - from) ≡ to = omega arith in
+    let same : slice from to l ≡ mid_of from (to - from) l = ap (λ (n : ℕ). drop from (take n l)) (sym whole) ∙ drop-take from (to - from) l in
+    rw (e, Post-is from to l h, same)
+
 -- each part reversed, and then both together
 pub turned_in_turn :
     (from middle to : ℕ) (l l₁ l₂ l₃ : List ℕ)
@@ -86,33 +99,33 @@ pub turned_in_turn :
     → l₂ ≡ flipped middle to l₁
     → l₃ ≡ flipped from to l₂
     → l₃ ≡ turned from middle to l
-unfolding turned rev
+unfolding turned
 turned_in_turn from middle to l l₁ l₂ l₃ h g k e₁ e₂ e₃ =
     let a = take from l in
     let p = slice from middle l in
     let q = slice middle to l in
     let r = drop to l in
     let front : length a ≡ from = length-take-le from l (omega arith) in
-    let size_p : length (rev p) ≡ middle - from = length-reverse p ∙ length_part from middle l (omega arith) in
-    let size_q : length (rev q) ≡ to - middle = length-reverse q ∙ length_part middle to l k in
-    let f₁ : l₁ ≡ a ++ rev p ++ (q ++ r) =
+    let size_p : length (reverse p) ≡ middle - from = length-reverse p ∙ length_part from middle l (omega arith) in
+    let size_q : length (reverse q) ≡ to - middle = length-reverse q ∙ length_part middle to l k in
+    let f₁ : l₁ ≡ a ++ reverse p ++ (q ++ r) =
     e₁
     ∙ ap (flipped from middle) (in_parts from middle to l h g)
     ∙ flipped_part from middle a p (q ++ r) front (omega (arith, length_part from middle l (omega arith)))
-    ∙ sym (append_assoc a (rev p) (q ++ r)) in
-    let f₂ : l₂ ≡ a ++ ((rev p ++ rev q) ++ r) =
+    ∙ sym (append_assoc a (reverse p) (q ++ r)) in
+    let f₂ : l₂ ≡ a ++ ((reverse p ++ reverse q) ++ r) =
     e₂
     ∙ ap (flipped middle to) f₁
-    ∙ flipped_part middle to (a ++ rev p) q r (omega (arith, length-append a (rev p), front, size_p)) (omega (arith, length_part middle to l k))
+    ∙ flipped_part middle to (a ++ reverse p) q r (omega (arith, length-append a (reverse p), front, size_p)) (omega (arith, length_part middle to l k))
     ∙ simp append_assoc in
     e₃
     ∙ ap (flipped from to) f₂
-    ∙ flipped_part from to a (rev p ++ rev q) r front (omega (arith, length-append (rev p) (rev q), size_p, size_q))
-    ∙ rw (reverse-append (rev p) (rev q), reverse-reverse q, reverse-reverse p, append_assoc q p r)
+    ∙ flipped_part from to a (reverse p ++ reverse q) r front (omega (arith, length-append (reverse p) (reverse q), size_p, size_q))
+    ∙ rw (reverse-append (reverse p) (reverse q), reverse-reverse q, reverse-reverse p, append_assoc q p r)
 
 -- bytes in use without those from one place up to another
 without : (from to end : ℕ) (l : List ℕ) → from ≤ end → spliced from to [] (take end l) ≡ take from l ++ slice to end l
-unfolding spliced slice
+unfolding spliced
 without from to end l h =
     ap (λ (a : List ℕ). a ++ [] ++ drop to (take end l)) (take-take from end l h)
     ∙ ap (λ (a : List ℕ). a ++ drop to (take end l)) (append-nil (take from l))

@@ -1,6 +1,6 @@
 -- Bytes of a section moved in place. Leans on nothing.
 use Rattle.std.specs.Prelude.{ℕ, List, ◌++◌, take, drop}
-use Rattle.bytes.specs.Bytes.{slice}
+use lib.Seq.{slice}
 
 -- the bytes from one place up to a second, and those from there up to a third, the other way about
 unfoldable pub turned : ℕ → ℕ → ℕ → List ℕ → List ℕ

@@ -15,9 +15,9 @@ pub fn turn(section: &mut [u8], from: usize, middle: usize, to: usize)
     requires { (from ≤ middle) × (middle ≤ to) × (to ≤ length section.old) }
     ensures { section.new ≡ turned from middle to section.old }
 {
-    bytes::reverse(section, from, middle);
-    bytes::reverse(section, middle, to);
-    bytes::reverse(section, from, to);
+    section[from..middle].reverse();
+    section[middle..to].reverse();
+    section[from..to].reverse();
 }
 
 // Held bytes change about with as many of a section.

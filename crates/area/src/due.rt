@@ -12,7 +12,7 @@ use slot::release::is_released;
 use trade::{Answer, Clock, Flow, Progress, Run, Slot, Step};
 
 // What codes 10, 12 and 11 answer to a run, the run after the releases of its slot, and the first release of each flow.
-#[derive(Drop)]
+#[derive(Clone, Copy)]
 pub struct Due {
     pub answer: Answer,
     pub run: Run,

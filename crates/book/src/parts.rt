@@ -13,7 +13,7 @@ use sections::steps::steps_answer;
 use trade::{Answer, Book, Flow, Node, Plan};
 
 // What a trailer says: the distances to the three sections, the counts, and whether the mark is there.
-#[derive(Drop)]
+#[derive(Clone, Copy)]
 pub struct Trailer {
     pub rows: u16,
     pub records: u16,
@@ -24,7 +24,7 @@ pub struct Trailer {
 }
 
 // The counts of a book, where its sections start in the slice, and where the steps end.
-#[derive(Drop)]
+#[derive(Clone, Copy)]
 pub struct Frame {
     pub nodes: usize,
     pub flows: usize,
@@ -35,7 +35,7 @@ pub struct Frame {
 }
 
 // The answer to a slice as a book, and its parts where it is one.
-#[derive(Drop)]
+#[derive(Clone, Copy)]
 pub struct Opened {
     pub answer: Answer,
     pub frame: Frame,

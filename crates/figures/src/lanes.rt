@@ -15,7 +15,7 @@ use plans::steps::{plan_part, step_at, step_count};
 use sections::records::len_at;
 
 // The flows that have been laid: up to which, where the steps of the next begin, the ends of the lanes, and the most steps of a plan.
-#[derive(Drop)]
+#[derive(Clone, Copy)]
 pub(crate) struct Group {
     pub next: usize,
     pub start: usize,

@@ -12,7 +12,7 @@ ghost use Rattle.figures.specs.Rises.{lane_at, rise_at, over, Shifts, Says, Low,
 use std::num::wrapping_add_u64;
 
 // The bits of the rises.
-#[derive(Drop)]
+#[derive(Clone, Copy)]
 pub(crate) struct Rises {
     pub ones: u64,
     pub twos: u64,

@@ -7,7 +7,7 @@ use crate::steps::{plan_part, step_count, step_or_none};
 use trade::Transmission;
 
 // The part of a book that holds one plan's steps.
-#[derive(Drop)]
+#[derive(Clone, Copy)]
 pub struct PlanView<'a> {
     pub steps: &'a [u8],
 }

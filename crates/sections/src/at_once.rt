@@ -16,7 +16,7 @@ use crate::records::len_at;
 use trade::{Flow, Plan};
 
 // The steps of all plans, and how many plans start anew.
-#[derive(Drop)]
+#[derive(Clone, Copy)]
 struct Begun {
     all: usize,
     anew: u16,

@@ -13,7 +13,7 @@ use sections::records::len_at;
 use trade::{Flow, Node, Run, Step, Transmission};
 
 // A flow's turn: where its plan starts, the plan's length, and the steps done by its latest instance.
-#[derive(Drop)]
+#[derive(Clone, Copy)]
 pub struct Turn {
     pub start: usize,
     pub len: usize,
@@ -21,7 +21,7 @@ pub struct Turn {
 }
 
 // What a turn leaves: the set of what is sent, whether the flow goes, and what it sends then.
-#[derive(Drop)]
+#[derive(Clone, Copy)]
 pub struct Taken {
     pub set: GrantSet,
     pub goes: bool,
@@ -29,7 +29,7 @@ pub struct Taken {
 }
 
 // The flows that go: their places as a set, and what each of them sends.
-#[derive(Drop)]
+#[derive(Clone, Copy)]
 pub struct Choice {
     pub places: u32,
     pub sent: [Transmission; Flow::MOST],

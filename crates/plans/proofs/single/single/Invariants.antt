@@ -1,0 +1,22 @@
+-- `plans::single::single` writes each step that is no repeat behind those before it. The loop's invariant: the first k steps stand so. The
+-- measure is how many steps are left. Assumes nothing.
+use Prim.Native.Nat.{◌+◌, ◌-◌, ◌*◌, ◌≤◌, ◌<◌}
+use mathlib.Core.Path.{◌≡◌, refl, sym, ◌∙◌}
+use mathlib.Core.Logic.{⊎_elim}
+use native.Mathlib.Omega.{arith}
+use native.Mathlib.Numerals.{add-one}
+use borrow.Author.Rules.{rules}
+use borrow.Author.Tests.{not-true, not-false}
+use lib.ListN.{length}
+use Rattle.trade.specs.Limits.{step_bytes}
+use Rattle.plans.specs.Plan.{steps_in}
+use Rattle.plans.specs.Single.{singles, SingledTo}
+use Rattle.plans.proofs.SingleLaws.{singles_most, singles_again, singles_new, singled_none, singled_again, singled_new}
+use Rattle.plans.proofs.single.single.Given as goal
+
+abbrev pub invariant-loop-k : goal.invariant-loop-k
+invariant-loop-k l =
+    (l.k ≤ l.len) × (l.len ≡ steps_in l.plan) × (l.found ≡ singles l.plan l.k) × SingledTo l.plan l.k l.initial.out l.out
+
+abbrev pub decreases-loop-k : goal.decreases-loop-k
+decreases-loop-k l = l.len - l.k

@@ -1,0 +1,54 @@
+-- `pairs::columns::gather` notes the steps from the last on. The loop's invariant: the columns hold the last b steps, and what lies beyond
+-- them is as lent. The measure is how many steps are left. Assumes nothing.
+use Prim.Native.Nat.{ℕ, suc, ◌-◌, ◌≤◌}
+use mathlib.Core.Path.{◌≡◌, refl, ◌∙◌}
+use native.Mathlib.Omega.{arith}
+use native.Mathlib.Numerals.{add-one}
+use borrow.Author.Rules.{rules}
+use lib.ListN.{length, get_or}
+use Rattle.trade.specs.Limits.{most_nodes}
+use Rattle.plans.specs.Plan.{steps_in}
+use Rattle.pairs.specs.Columns.{Columns}
+use Rattle.pairs.proofs.SpreadLaws.{columns_none, columns_more}
+use Rattle.pairs.proofs.columns.gather.Goals as goal
+
+pub loop-b-init : goal.loop-b-init
+loop-b-init c = (omega arith, c.step_count-len.ensures, refl, columns_none _ _ _ _ c.requires.4, λ x h. refl)
+
+pub step_at-requires : goal.step_at-requires
+step_at-requires c = omega (arith, c.loop-b.invariant.1)
+
+pub note-requires : goal.note-requires
+note-requires c =
+    let loop = c.loop-b in
+    let len : ℕ = c.step_count-len.result in (
+      rw c.step_at.ensures (c.requires.1 (len - 1 - loop.b) (omega (arith, loop.invariant.1))),
+      omega (arith, loop.invariant.1, c.requires.0),
+      c.requires.2,
+      omega (arith, loop.invariant.2, c.requires.3),
+    )
+
+pub loop-b-preserved : goal.loop-b-preserved
+loop-b-preserved c =
+    let loop = c.loop-b in
+    let plan = c.args.plan.now in
+    let len : ℕ = c.step_count-len.result in
+    let noted = c.note.ensures in
+    let e : len - 1 - loop.b ≡ steps_in plan - suc loop.b = omega (arith, loop.invariant.1) in
+    rw (add-one loop.b) (
+      omega arith,
+      loop.invariant.1,
+      noted.size ∙ loop.invariant.2,
+      columns_more c.args.rows.now c.args.heard.now plan loop.b loop.columns c.note.new.1.1.1.1.0
+          (omega (arith, loop.invariant.1, c.requires.0)) (rw (c.step_at.ensures, e) at noted) loop.invariant.3,
+      λ x h. noted.others x h ∙ loop.invariant.4 x h,
+    )
+
+pub shape_of-columns : goal.shape_of-columns
+shape_of-columns c = c.loop-b.invariant.2
+
+pub returns : goal.returns
+returns c =
+    let loop = c.loop-b in
+    let all : loop.b ≡ steps_in c.args.plan.now = omega (arith, loop.invariant.1) in
+    record { size = loop.invariant.2; columns = rw (← all) loop.invariant.3; others = loop.invariant.4 }

@@ -1,0 +1,40 @@
+-- `pairs::columns::nodes_in` joins the ends of the steps. The loop's invariant: the set has those of the first j. The measure is how many
+-- steps are left. Assumes nothing.
+use Prim.Native.Nat.{ℕ, ◌-◌, ◌≤◌}
+use mathlib.Core.Path.{◌≡◌, refl}
+use native.Mathlib.Omega.{arith}
+use native.Mathlib.Numerals.{add-one}
+use Rattle.trade.specs.First.{some}
+use Rattle.trade.specs.Bytes.{bit}
+use Rattle.trade.specs.Facts.{step_in}
+use Rattle.pairs.specs.Columns.{ending}
+use Rattle.pairs.proofs.SpreadLaws.{ends_none, ends_more}
+use Rattle.pairs.proofs.columns.nodes_in.Goals as goal
+
+pub loop-j-init : goal.loop-j-init
+loop-j-init c = (omega arith, ends_none _)
+
+pub step_at-u-requires : goal.step_at-u-requires
+step_at-u-requires c = omega (arith, c.requires.0)
+
+pub only-requires : goal.only-requires
+only-requires c = rw c.step_at-u.ensures (c.requires.1 c.loop-j.j (omega arith)).0
+
+pub only-requires-in-loop-j : goal.only-requires-in-loop-j
+only-requires-in-loop-j c = rw c.step_at-u.ensures (c.requires.1 c.loop-j.j (omega arith)).1
+
+pub loop-j-preserved : goal.loop-j-preserved
+loop-j-preserved c =
+    let loop = c.loop-j in
+    let steps = c.args.steps.now in
+    rw (add-one loop.j) (
+      omega arith,
+      rw (c.only.ensures, c.only-in-loop-j.ensures, c.step_at-u.ensures)
+          (ends_more (step_in steps loop.j) loop.nodes loop.j (λ i x. ending (step_in steps i) x) (λ x. refl) loop.invariant.1),
+    )
+
+pub returns : goal.returns
+returns c =
+    let loop = c.loop-j in
+    let all : loop.j ≡ c.args.count = omega (arith, loop.invariant.0) in
+    rw (← all) loop.invariant.1

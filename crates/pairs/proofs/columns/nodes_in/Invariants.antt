@@ -1,0 +1,18 @@
+-- `pairs::columns::nodes_in` joins the ends of the steps. The loop's invariant: the set has those of the first j. The measure is how many
+-- steps are left. Assumes nothing.
+use Prim.Native.Nat.{ℕ, ◌-◌, ◌≤◌}
+use mathlib.Core.Path.{◌≡◌, refl}
+use native.Mathlib.Omega.{arith}
+use native.Mathlib.Numerals.{add-one}
+use Rattle.trade.specs.First.{some}
+use Rattle.trade.specs.Bytes.{bit}
+use Rattle.trade.specs.Facts.{step_in}
+use Rattle.pairs.specs.Columns.{ending}
+use Rattle.pairs.proofs.SpreadLaws.{ends_none, ends_more}
+use Rattle.pairs.proofs.columns.nodes_in.Given as goal
+
+abbrev pub invariant-loop-j : goal.invariant-loop-j
+invariant-loop-j l = (l.j ≤ l.count) × ((x : ℕ) → bit l.nodes x ≡ some (λ i. ending (step_in l.steps i) x) l.j)
+
+abbrev pub decreases-loop-j : goal.decreases-loop-j
+decreases-loop-j l = l.count - l.j

@@ -1,0 +1,18 @@
+-- `sections::records::id_before` meets its contract: no record before j has the id. Assumes nothing.
+use Prim.Native.Nat.{ℕ, ◌≤◌, ◌<◌, ◌-◌}
+use mathlib.Core.Path.{◌≡◌, ◌∙◌, sym, ap}
+use mathlib.Core.Bool.{false}
+use borrow.Author.Rules.{rules}
+use borrow.Author.Count.{below_more}
+use borrow.Author.Tests.{eq-eqb, ne_eqb}
+use native.Mathlib.Omega.{arith}
+use lib.Dec.{eqb}
+use Rattle.trade.specs.Layout.{field}
+use Rattle.trade.proofs.First.{some_intro, some_none}
+use Rattle.sections.proofs.records.id_before.Given as goal
+
+abbrev pub invariant-loop-j : goal.invariant-loop-j
+invariant-loop-j l = (l.j ≤ l.i) × ((k : ℕ) → k < l.j → eqb (field l.records k 0) l.id ≡ false)
+
+abbrev pub decreases-loop-j : goal.decreases-loop-j
+decreases-loop-j l = l.i - l.j

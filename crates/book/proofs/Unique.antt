@@ -6,7 +6,7 @@ use Rattle.book.proofs.parts.is_miscounted.Kinds as is_miscounted_kinds
 use Rattle.book.proofs.parts.is_miscounted.Reads as is_miscounted
 use Rattle.book.proofs.parts.open_book.Kinds as open_book_kinds
 use Rattle.book.proofs.parts.open_book.Reads as open_book
-use Rattle.book.proofs.parts.rows_of.Reads as rows_of_lem
+use Rattle.book.proofs.parts.rows_of.Reads as rows_of
 use Rattle.book.proofs.parts.records_of.Reads as records_of
 use Rattle.book.proofs.parts.steps_of.Reads as steps_of
 
@@ -17,7 +17,7 @@ pub open_book_unique : OneResult 1 open_book_kinds.ps open_book_kinds.r open_boo
 open_book_unique κs a r r' s s' p q = one_result p q
 
 -- a part is lent on: what it holds is one list
-pub rows_of_unique : (κs : _) (a : _) (r r' : _) (s s' : _) → rows_of_lem.Post κs a r s → rows_of_lem.Post κs a r' s' → r.now ≡ r'.now
+pub rows_of_unique : (κs : _) (a : _) (r r' : _) (s s' : _) → rows_of.Post κs a r s → rows_of.Post κs a r' s' → r.now ≡ r'.now
 rows_of_unique κs a r r' s s' p q = one_result p q
 
 pub records_of_unique : (κs : _) (a : _) (r r' : _) (s s' : _) → records_of.Post κs a r s → records_of.Post κs a r' s' → r.now ≡ r'.now

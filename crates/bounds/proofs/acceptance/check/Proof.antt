@@ -44,7 +44,7 @@ unfolding frame_of sections_of
 bounds_of_requires c κs =
     let b : List ℕ = c.before.before.before.before.before.before.before.before.args.book.now in
     let f = framed c.before.before.before in
-    rw (f.1, c.before.before.rows_of_lem.ensures, c.before.records_of.ensures, c.steps_of.ensures) (book_formed b f.0)
+    rw (f.1, c.before.before.rows_of.ensures, c.before.records_of.ensures, c.steps_of.ensures) (book_formed b f.0)
 
 returns_2 : tie.Need-returns-2
 unfolding frame_of sections_of
@@ -54,7 +54,7 @@ returns_2 c =
     rw (
       c.bounds_of.ensures,
       f.1,
-      c.before.before.before.rows_of_lem.ensures,
+      c.before.before.before.rows_of.ensures,
       c.before.before.records_of.ensures,
       c.before.steps_of.ensures,
     )

@@ -39,13 +39,10 @@ loop-b-preserved c =
       omega arith,
       loop.invariant.1,
       noted.size ∙ loop.invariant.2,
-      columns_more c.args.rows.now c.args.heard.now plan loop.b loop.columns c.note.new.1.1.1.1.0
+      columns_more c.args.rows.now c.args.heard.now plan loop.b loop.columns c.note.new.columns
           (omega (arith, loop.invariant.1, c.requires.0)) (rw (c.step_at.ensures, e) at noted) loop.invariant.3,
       λ x h. noted.others x h ∙ loop.invariant.4 x h,
     )
-
-pub shape_of-columns : goal.shape_of-columns
-shape_of-columns c = c.loop-b.invariant.2
 
 pub returns : goal.returns
 returns c =

@@ -12,6 +12,6 @@ overflow_cast-result c = record { fits = omega (arith, c.type_inv.columns c.args
 pub returns : goal.returns
 unfolding marked_at
 returns c b =
-    let args = c.before.before.before.before.args in
+    let args = c.args in
     let table = args.columns.now in
-    halves_or (get_or table args.t.sender.0 0) (get_or table args.t.receiver.0 0) b (omega (arith, c.shared_slice_known2.given args.t.sender.0))
+    halves_or (get_or table args.t.sender.0 0) (get_or table args.t.receiver.0 0) b (omega (arith, c.type_inv.columns args.t.sender.0))

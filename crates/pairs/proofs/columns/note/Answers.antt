@@ -36,7 +36,7 @@ returns c =
     let low = one_bit b (omega (arith, c.requires.1)) in
     let high = one_bit (32 + b) (omega (arith, c.requires.1)) in
     noted u rows heard b (bit_or (bit_or sender.result (get_or heard u.sender.0 0)) two) (bit_or (bit_or receiver.result (get_or heard u.receiver.0 0)) two)
-    c.args.columns.now first.new.0 second.new.0 third.new.0
+    c.args.columns.now first.new.table second.new.table third.new.table
     (λ x h. rw (own.ensures, other.ensures, sender.ensures) (ends u (bit_or (row_mask rows u.sender.0) (get_or heard u.sender.0 0)) x ∙ near_set rows heard u.sender.0 x (bit_row rows bytes u.sender.0 x h) (eqb u.sender.0 x || eqb u.receiver.0 x)))
     (λ x h. rw (own.ensures, other.ensures, receiver.ensures) (ends u (bit_or (row_mask rows u.receiver.0) (get_or heard u.receiver.0 0)) x ∙ near_set rows heard u.receiver.0 x (bit_row rows bytes u.receiver.0 x h) (eqb u.sender.0 x || eqb u.receiver.0 x)))
     (rw (low, high) at first.ensures) (rw low at second.ensures) (rw high at third.ensures)

@@ -9,7 +9,7 @@ use lib.ListN.{length}
 use Rattle.nodes.proofs.LowestLaws.{Lowest, trailing_lowest}
 use Rattle.pairs.proofs.SpreadLaws.{Spreading, spreading_none, spreading_more, spreading_all}
 use Rattle.pairs.proofs.columns.spread.Goals as goal
-use Rattle.pairs.proofs.columns.spread.Goals.{After-slice_known-1}
+use Rattle.pairs.proofs.columns.spread.Goals.{In-loop-rest}
 
 pub loop-rest-init : goal.loop-rest-init
 loop-rest-init c = (spreading_none _ _ _, omega arith)
@@ -22,21 +22,21 @@ offset_bounds-table-x c = omega (arith, trailing_le 64 c.loop-rest.rest)
 
 -- the lowest node that is left has its place in the table
 lowest :
-    (c : After-slice_known-1)
+    (c : In-loop-rest)
     → (count_trailing_zeros 64 c.loop-rest.rest < 64) × Lowest c.loop-rest.rest (count_trailing_zeros 64 c.loop-rest.rest)
 lowest c = trailing_lowest 64 c.loop-rest.rest (omega arith) (omega (arith, c.loop-rest.invariant.1))
 
-inside : (c : After-slice_known-1) → count_trailing_zeros 64 c.loop-rest.rest < length c.loop-rest.table
+inside : (c : In-loop-rest) → count_trailing_zeros 64 c.loop-rest.rest < length c.loop-rest.table
 inside c = omega (arith, (lowest c).0, c.loop-rest.invariant.0.size, c.requires)
 
 pub bounds-table-x : goal.bounds-table-x
-bounds-table-x c = inside (goal.at.bounds-table-x c).After-slice_known-1
+bounds-table-x c = inside (goal.at.bounds-table-x c).In-loop-rest
 
 pub offset_bounds-table-x-in-loop-rest : goal.offset_bounds-table-x-in-loop-rest
 offset_bounds-table-x-in-loop-rest c = omega (arith, trailing_le 64 c.loop-rest.rest)
 
 pub bounds-table-x-in-loop-rest : goal.bounds-table-x-in-loop-rest
-bounds-table-x-in-loop-rest c = inside (goal.at.bounds-table-x-in-loop-rest c).After-slice_known-1
+bounds-table-x-in-loop-rest c = inside (goal.at.bounds-table-x-in-loop-rest c).In-loop-rest
 
 pub loop-rest-smaller : goal.loop-rest-smaller
 loop-rest-smaller c = let rest : ℕ = c.loop-rest.rest in omega (arith, and_le_r rest (rest - 1))
@@ -44,10 +44,7 @@ loop-rest-smaller c = let rest : ℕ = c.loop-rest.rest in omega (arith, and_le_
 pub loop-rest-preserved : goal.loop-rest-preserved
 loop-rest-preserved c =
     let loop = c.loop-rest in
-    (spreading_more _ _ _ loop.rest _ loop.table (lowest (goal.at.loop-rest-preserved c).After-slice_known-1).1 (inside (goal.at.loop-rest-preserved c).After-slice_known-1) loop.invariant.0, omega (arith, and_le_l loop.rest (loop.rest - 1), loop.invariant.1))
-
-same_length : tie.Need-same-length invariant_loop decreases_loop
-same_length c = c.before.loop.invariant.0.size
+    (spreading_more _ _ _ loop.rest _ loop.table (lowest (goal.at.loop-rest-preserved c).In-loop-rest).1 (inside (goal.at.loop-rest-preserved c).In-loop-rest) loop.invariant.0, omega (arith, and_le_l loop.rest (loop.rest - 1), loop.invariant.1))
 
 pub returns : goal.returns
 returns c =

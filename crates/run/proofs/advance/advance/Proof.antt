@@ -61,7 +61,7 @@ steps_of_requires c κs = (opened c.before.before.before.before.before).lies
 run_slot_requires : tie.Need-run-slot-requires
 run_slot_requires c κs =
     let book = opened c.before.before.before.before.before.before.before.before in (
-      rw (c.before.before.before.before.rows_of_lem.ensures, c.before.before.before.records_of.ensures, c.before.before.steps_of.ensures) book.formed,
+      rw (c.before.before.before.before.rows_of.ensures, c.before.before.before.records_of.ensures, c.before.before.steps_of.ensures) book.formed,
       c.before.before.before.before.before.before.if2.false,
       c.before.before.before.before.before.if3.false,
     )
@@ -72,7 +72,7 @@ returns_4 c =
     let a = c.before.before.before.before.before.before.before.before.before.before.before.before.before.before.before.before.before.before.before.before.args in
     let book = opened c.before.before.before.before.before.before.before.before.before.before.before.before.before in
     slot_advances a.book.now a.area.now a.grants.now book.done c.before.before.before.before.before.before.before.before.before.before.before.if2.false (lent c.before.before.before.before.before.before.before.before.before.before) c.before.before.before.before.run_slot.result _ _
-    (rw (book.flows, c.before.before.before.before.before.before.before.before.before.rows_of_lem.ensures, c.before.before.before.before.before.before.before.before.records_of.ensures, c.before.before.before.before.before.before.before.steps_of.ensures) at c.before.before.before.before.run_slot.ensures)
+    (rw (book.flows, c.before.before.before.before.before.before.before.before.before.rows_of.ensures, c.before.before.before.before.before.before.before.before.records_of.ensures, c.before.before.before.before.before.before.before.steps_of.ensures) at c.before.before.before.before.run_slot.ensures)
 
 pub advance_spec : {M : Type 1} → statement M
 advance_spec =

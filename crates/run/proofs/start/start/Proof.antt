@@ -26,7 +26,7 @@ checked c =
     let b = c.before.before.before.before.before.before.before.before.before.before.before.args.book.now in
     let o = opened c.before.before.before.before.before in
     ap (λ (r : Checked). r.answer)
-    ((rw (o.flows, c.before.before.before.rows_of_lem.ensures, c.before.before.records_of.ensures, c.before.steps_of.ensures) at c.bounds_of.ensures) ∙ said_bounded b o.done)
+    ((rw (o.flows, c.before.before.before.rows_of.ensures, c.before.before.records_of.ensures, c.before.steps_of.ensures) at c.bounds_of.ensures) ∙ said_bounded b o.done)
     ∙ sym (check_passed b o.done)
 
 accepted : (c : tie.Else2) → (check_answer c.before.before.before.before.before.before.before.before.before.before.before.before.before.before.args.book.now).code ≡ 0
@@ -53,7 +53,7 @@ steps_of_requires : tie.Need-steps-of-requires
 steps_of_requires c κs = (opened c.before.before.before).lies
 
 bounds_of_requires : tie.Need-bounds-of-requires
-bounds_of_requires c κs = rw (c.before.before.rows_of_lem.ensures, c.before.records_of.ensures, c.steps_of.ensures) (opened c.before.before.before.before).formed
+bounds_of_requires c κs = rw (c.before.before.rows_of.ensures, c.before.records_of.ensures, c.steps_of.ensures) (opened c.before.before.before.before).formed
 
 returns_2 : tie.Need-returns-2
 returns_2 c =
@@ -71,7 +71,7 @@ returns_3 c =
     (refuses 12 0 c.refused.ensures)
 
 started_requires : tie.Need-started-requires
-started_requires c κs = rw (c.before.before.before.before.before.before.before.before.rows_of_lem.ensures, c.before.before.before.before.before.before.before.records_of.ensures, c.before.before.before.before.before.before.steps_of.ensures) (opened c.before.before.before.before.before.before.before.before.before.before).formed
+started_requires c κs = rw (c.before.before.before.before.before.before.before.before.rows_of.ensures, c.before.before.before.before.before.before.before.records_of.ensures, c.before.before.before.before.before.before.steps_of.ensures) (opened c.before.before.before.before.before.before.before.before.before.before).formed
 
 returns_4 : tie.Need-returns-4
 returns_4 c =

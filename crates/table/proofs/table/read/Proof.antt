@@ -51,11 +51,11 @@ table_of_requires c κs =
     let book = c.before.before.before.before.before.before.before.before.before.before.before.args.book.now in
     let (done, frame) = opened c.before.before.before.before.before.before in (
       (
-        rw c.before.before.rows_of_lem.ensures (rows_fit book done),
+        rw c.before.before.rows_of.ensures (rows_fit book done),
         rw c.before.records_of.ensures (records_fit book done),
         rw c.steps_of.ensures (steps_fit book done),
       ),
-      rw (frame, c.before.before.rows_of_lem.ensures, c.before.records_of.ensures, c.steps_of.ensures) (book_formed book done),
+      rw (frame, c.before.before.rows_of.ensures, c.before.records_of.ensures, c.steps_of.ensures) (book_formed book done),
     )
 
 returns_2 : tie.Need-returns-2
@@ -68,7 +68,7 @@ returns_2 c =
       table =
           c.table_of.ensures
           ∙ (λ i.
-          table_with (done.1 i).nodes (done.1 i).flows (c.before.before.before.rows_of_lem.ensures i) (c.before.before.records_of.ensures i)
+          table_with (done.1 i).nodes (done.1 i).flows (c.before.before.before.rows_of.ensures i) (c.before.before.records_of.ensures i)
           (c.before.steps_of.ensures i))
           ∙ sym (read_done book done.0);
     }

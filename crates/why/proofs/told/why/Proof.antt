@@ -39,14 +39,14 @@ steps_of_requires : tie.Need-steps-of-requires
 steps_of_requires c κs = (opened c.before.before.before.before).lies
 
 told_in_requires : tie.Need-told-in-requires
-told_in_requires c κs = (rw (c.before.before.rows_of_lem.ensures, c.before.records_of.ensures, c.steps_of.ensures) (opened c.before.before.before.before.before).formed, c.before.before.before.if2.false)
+told_in_requires c κs = (rw (c.before.before.rows_of.ensures, c.before.records_of.ensures, c.steps_of.ensures) (opened c.before.before.before.before.before).formed, c.before.before.before.if2.false)
 
 returns_3 : tie.Need-returns-3
 unfolding said facts_of
 returns_3 c =
     let a = c.before.before.before.before.before.before.before.before.before.before.before.before.args in
     let book = opened c.before.before.before.before.before.before in
-    rw (book.flows, c.before.before.before.rows_of_lem.ensures, c.before.before.records_of.ensures, c.before.steps_of.ensures) at c.told_in.ensures
+    rw (book.flows, c.before.before.before.rows_of.ensures, c.before.before.records_of.ensures, c.before.steps_of.ensures) at c.told_in.ensures
     ∙ sections_tell a.book.now a.area.now a.place book.done c.before.before.before.before.if2.false
     ∙ sym (slot_tells a.book.now a.area.now a.place book.done c.before.before.before.before.if2.false)
 

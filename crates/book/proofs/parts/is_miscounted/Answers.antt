@@ -2,12 +2,8 @@
 use borrow.Author.Tests.{le-ltb}
 use native.Mathlib.Omega.{arith}
 use Rattle.trade.specs.Codes.{outside}
-use Rattle.book.proofs.parts.is_miscounted.Statement.{statement}
-use Rattle.book.proofs.parts.is_miscounted.Tie as tie
+use Rattle.book.proofs.parts.is_miscounted.Goals as goal
 
-returns : tie.Need-returns
+pub returns : goal.returns
 unfolding outside
 returns c = rw (le-ltb c.args.flows 0 (omega arith))
-
-pub is_miscounted_spec : {M : Type 1} → statement M
-is_miscounted_spec = tie.close (tie.spec returns)

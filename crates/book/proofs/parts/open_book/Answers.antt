@@ -24,12 +24,12 @@ read c = c.trailer_of-t.ensures ∙ ap trailer_in (part_tail (length c.args.slic
 answered :
     (c : After-trailer_answer-marked)
     → c.trailer_answer-marked.result ≡ trailer_answer (trailer_in (trailer c.args.slice.now)) (length c.args.slice.now)
-answered c = c.trailer_answer-marked.ensures ∙ ap (λ (t : Trailer). trailer_answer t (length c.args.slice.now)) (read c.before)
+answered c = c.trailer_answer-marked.ensures ∙ ap (λ (t : Trailer). trailer_answer t (length c.args.slice.now)) (read (record { before = c.before.before; type_inv = record { slice = c.type_inv.slice } }))
 
 passed :
     (c : Else-marked-ne0)
     → (trailer_answer (trailer_in (trailer c.args.slice.now)) (length c.args.slice.now)).code ≡ 0
-passed c = sym (ap (λ (r : Answer). r.code) (answered c.before.before)) ∙ c.if-marked-ne0.false
+passed c = sym (ap (λ (r : Answer). r.code) (answered (record { before = c.before.before.before; type_inv = record { slice = c.type_inv.slice } }))) ∙ c.if-marked-ne0.false
 
 -- where the parts lie
 laid : (c : Else-marked-ne0) → Lies c.args.slice.now (frame_by (trailer_in (trailer c.args.slice.now)) (length c.args.slice.now))
@@ -38,8 +38,8 @@ laid c =
 
 framed : (c : After-frame_by-frame) → Lies c.args.slice.now c.frame_by-frame.result
 framed c =
-    rw (c.frame_by-frame.ensures, read c.before.before.before.before)
-    (laid c.before)
+    rw (c.frame_by-frame.ensures, read (record { before = c.before.before.before.before.before; type_inv = record { slice = c.type_inv.slice } }))
+    (laid (record { before = c.before.before; type_inv = record { slice = c.type_inv.slice } }))
 
 pub returns-then-slice-lt-TRAILER_BYTES : goal.returns-then-slice-lt-TRAILER_BYTES
 returns-then-slice-lt-TRAILER_BYTES c =

@@ -41,15 +41,15 @@ past_five :
     ≡ first_of ((λ b. code6 (said b)) ∷ code7 ∷ (λ b. code8 (said b)) ∷ []) no_number c.args.slice.now
 unfolding section_rules
 past_five c =
-    first_of_pass _ _ no_number c.args.slice.now (sym (ap (λ (r : Answer). r.code) (five c.before.before)) ∙ c.if-rows-ne0.false)
+    first_of_pass _ _ no_number c.args.slice.now (sym (ap (λ (r : Answer). r.code) (five (record { before = c.before.before.before; type_inv = record { steps = c.type_inv.steps; records = c.type_inv.records; slice = c.type_inv.slice } }))) ∙ c.if-rows-ne0.false)
 
 past_six :
     (c : Else-named-ne0)
     → first_of section_rules no_number c.args.slice.now
     ≡ first_of (code7 ∷ (λ b. code8 (said b)) ∷ []) no_number c.args.slice.now
 past_six c =
-    past_five c.before.before.before
-    ∙ first_of_pass _ _ no_number c.args.slice.now (sym (ap (λ (r : Answer). r.code) (six c.before.before)) ∙ c.if-named-ne0.false)
+    past_five (record { before = c.before.before.before.before; type_inv = record { steps = c.type_inv.steps; records = c.type_inv.records; slice = c.type_inv.slice } })
+    ∙ first_of_pass _ _ no_number c.args.slice.now (sym (ap (λ (r : Answer). r.code) (six (record { before = c.before.before.before; type_inv = record { steps = c.type_inv.steps; records = c.type_inv.records; slice = c.type_inv.slice } }))) ∙ c.if-named-ne0.false)
 
 -- the sum of L against the steps' bytes
 sums :

@@ -13,14 +13,15 @@ unfolding trailer_answer
 returns-then-is_miscounted c =
     rw (c.refused-then-is_miscounted.ensures, c.if-not-marked.false, sym c.is_miscounted.ensures ∙ c.if-is_miscounted.true)
 
+-- the trailer as a whole is asked before what it says of its mark
 pub returns-then-is_astray : goal.returns-then-is_astray
 unfolding trailer_answer
 returns-then-is_astray c =
     rw (
       c.refused-then-is_astray.ensures,
+      sym c.is_astray.ensures ∙ c.if-is_astray.true,
       c.if-not-marked.false,
       sym c.is_miscounted.ensures ∙ c.if-is_miscounted.false,
-      sym c.is_astray.ensures ∙ c.if-is_astray.true,
     )
 
 pub returns : goal.returns
@@ -28,7 +29,7 @@ unfolding trailer_answer
 returns c =
     rw (
       c.done.ensures,
+      sym c.is_astray.ensures ∙ c.if-is_astray.false,
       c.if-not-marked.false,
       sym c.is_miscounted.ensures ∙ c.if-is_miscounted.false,
-      sym c.is_astray.ensures ∙ c.if-is_astray.false,
     )

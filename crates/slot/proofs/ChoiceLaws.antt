@@ -19,7 +19,7 @@ use Rattle.trade.specs.Facts.{Facts, facts_of, facts_in, first_step, step_of}
 use Rattle.trade.specs.Slot.{State, going, greedy, granted_by, among, done_now, unfinished, next_step}
 use Rattle.trade.specs.declared.node.Transmission.{Transmission}
 use Rattle.trade.proofs.First.{bool_cases, and_true, lt_or_ge}
-use Rattle.trade.proofs.Slot.{going_goes, going_stays, among_last, among_more}
+use Rattle.trade.proofs.SlotLaws.{going_goes, going_stays, among_last, among_more}
 use Rattle.nodes.specs.Network.{Within}
 use Rattle.nodes.specs.Grants.{Holds, Fresh, clashes_with}
 use Rattle.nodes.specs.declared.grants.GrantSet.{GrantSet}

@@ -1,0 +1,38 @@
+-- `figures::figures::figures_at` meets its contract: the columns of the plan give the figures, and the first flow has none. Assumes nothing.
+use Rattle.std.proofs.Common.{◌≡◌, ℕ, ◌+◌, sym, ◌∙◌, arith, rules}
+use Rattle.trade.specs.Limits.{most_flows}
+use Rattle.trade.specs.Facts.{facts_in}
+use Rattle.trade.specs.Interference.{interference}
+use Rattle.pairs.proofs.SpreadLaws.{zeros}
+use Rattle.sections.specs.Formed.{plan_at}
+use Rattle.figures.specs.Figures.{figure_by}
+use Rattle.figures.proofs.FiguresLaws.{plan_asked}
+use Rattle.figures.proofs.Padded.{filled_none, filled_same}
+use Rattle.figures.proofs.figures.figures_at.Goals as goal
+
+pub returns-then-l-eq0 : goal.returns-then-l-eq0
+returns-then-l-eq0 c =
+    let none : c.args.l ≡ 0 = c.if-l-eq0.true in
+    rw none (sym (filled_none most_flows _))
+
+pub columns_at-width-requires : goal.columns_at-width-requires
+columns_at-width-requires c = let pre = c.requires in (pre.formed, (pre.most_nodes_in_bounds, (omega arith, λ x h. zeros 64 x)))
+
+pub slice_bounds-figures_by-end : goal.slice_bounds-figures_by-end
+slice_bounds-figures_by-end c = sym c.columns_at-width.ensures.size
+
+pub figures_by-requires : goal.figures_by-requires
+figures_by-requires c =
+    let a = c.args in
+    let w = c.columns_at-width.ensures in record {
+      l_lt_most_flows = (omega (arith, c.requires.formed.most), omega (arith, c.requires.formed.recorded), omega (arith, w.size), w.short, w.narrow);
+      by_index = λ h b. plan_asked (a.l + 1) a.rows.now a.records.now a.steps.now c.requires.formed h (omega arith);
+    }
+
+pub returns : goal.returns
+returns c =
+    let a = c.args in
+    let w = c.columns_at-width in
+    c.figures_by.ensures
+    ∙ filled_same most_flows (λ (h : ℕ). figure_by w.new.1.1.1.1.1.0 w.result (plan_at a.records.now a.steps.now h))
+    (interference (facts_in 0 0 a.rows.now a.records.now a.steps.now) a.l) a.l (omega (arith, c.requires.formed.most)) w.ensures.figure

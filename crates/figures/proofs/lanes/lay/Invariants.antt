@@ -1,0 +1,12 @@
+-- `figures::lanes::lay` sets the marks of each step into its word. The loop's invariant: those of the first j steps are set. The measure
+-- is how many steps are left. Assumes nothing.
+use Rattle.std.proofs.Common.{◌≡◌, ◌-◌, ◌≤◌, add-one, arith, rules}
+use Rattle.plans.specs.Plan.{steps_in}
+use Rattle.figures.proofs.LanesLaws.{LayingAt, laying_none, laying_more, laying_all}
+use Rattle.figures.proofs.lanes.lay.Given as goal
+
+abbrev pub invariant-loop-j : goal.invariant-loop-j
+invariant-loop-j l = (l.j ≤ l.len) × (l.len ≡ steps_in l.h) × LayingAt l.columns l.h l.at l.j l.initial.words l.words
+
+abbrev pub decreases-loop-j : goal.decreases-loop-j
+decreases-loop-j l = l.len - l.j

@@ -60,7 +60,7 @@ part_within c =
 pub gather-requires : goal.gather-requires
 gather-requires c =
     let pre = c.requires in
-    (rw (is_part (goal.at.gather-requires c).After-plan_part) (part_short (goal.at.gather-requires c).After-plan_part), rw (is_part (goal.at.gather-requires c).After-plan_part) (part_within (goal.at.gather-requires c).After-plan_part), pre.most_nodes_in_bounds.0.0, omega (arith, pre.most_nodes_in_bounds.1.0), pre.most_nodes_in_bounds.1.1)
+    (rw (is_part (goal.at.gather-requires c).After-plan_part) (part_short (goal.at.gather-requires c).After-plan_part), rw (is_part (goal.at.gather-requires c).After-plan_part) (part_within (goal.at.gather-requires c).After-plan_part), pre.most_nodes_in_bounds.0, omega (arith, pre.columns_len.0), pre.columns_len.1)
 
 pub returns : goal.returns
 returns c =
@@ -69,7 +69,7 @@ returns c =
     let columns : List ℕ = c.gather.new.columns in
     let width = is_width (goal.at.returns c).After-plan_part in
     record {
-      size = gathered.size ∙ c.requires.most_nodes_in_bounds.1.0;
+      size = gathered.size ∙ c.requires.columns_len.0;
       short = omega (arith, width, singles_most (own (goal.at.returns c).After-plan_part) (steps_in (own (goal.at.returns c).After-plan_part)), own_short (goal.at.returns c).After-plan_part);
       narrow =
           subst (λ (n : ℕ). Narrow n columns) (once_steps a.rows.now (own (goal.at.returns c).After-plan_part) _ (once (goal.at.returns c).After-plan_part) (own_room (goal.at.returns c).After-plan_part) (is_once (goal.at.returns c).After-plan_part) ∙ sym width)
@@ -77,6 +77,6 @@ returns c =
       figure =
           λ h b.
           ap (λ (n : ℕ). figure_by columns n (plan_at a.records.now a.steps.now h)) width
-          ∙ figure_columns (a.l + 1) a.rows.now a.heard.now a.records.now a.steps.now _ (once (goal.at.returns c).After-plan_part) columns a.l c.requires.formed (omega arith) c.requires.most_nodes_in_bounds.0.1 (own_room (goal.at.returns c).After-plan_part) (is_once (goal.at.returns c).After-plan_part)
+          ∙ figure_columns (a.l + 1) a.rows.now a.heard.now a.records.now a.steps.now _ (once (goal.at.returns c).After-plan_part) columns a.l c.requires.formed (omega arith) c.requires.most_nodes_in_bounds.1 (own_room (goal.at.returns c).After-plan_part) (is_once (goal.at.returns c).After-plan_part)
           (rw (is_part (goal.at.returns c).After-plan_part) at gathered.columns) h b;
     }

@@ -8,23 +8,25 @@ use Rattle.figures.proofs.LanesLaws.{lane_matrix, laid_holds, lane_figure}
 use Rattle.figures.proofs.figures.figure_at.Goals as goal
 
 pub columns_at-width-requires : goal.columns_at-width-requires
-columns_at-width-requires c = let pre = c.requires in (pre.formed.0, (pre.most_nodes_in_bounds, (omega arith, λ x h. zeros 64 x)))
+columns_at-width-requires c = let pre = c.requires in record {
+      formed = pre.formed.0;
+      most_nodes_in_bounds = pre.most_nodes_in_bounds;
+      columns_len = (omega arith, λ x h. zeros 64 x);
+    }
 
 pub lay_group-laid-requires : goal.lay_group-laid-requires
 lay_group-laid-requires c =
     let a = c.args in
     let w = c.columns_at-width.ensures in
-    let f = c.requires.formed.0 in (
-      (omega arith, omega (arith, f.most, c.requires.formed.1), omega (arith, f.recorded, c.requires.formed.1), omega (arith, w.size), w.short, w.narrow),
-      (
-        (
+    let f = c.requires.formed.0 in record {
+      first_lt_l = (omega arith, omega (arith, f.most, c.requires.formed.1), omega (arith, f.recorded, c.requires.formed.1), omega (arith, w.size), w.short, w.narrow);
+      start_value = (
           c.steps_before-start.ensures.0,
           c.steps_before-start.ensures.1,
           λ h b. plan_asked (a.l + 1) a.rows.now a.records.now a.steps.now f h (omega (arith, c.requires.formed.1)),
-        ),
-        (refl, λ j. zeros 32 j),
-      ),
-    )
+        );
+      words_len = (refl, λ j. zeros 32 j);
+    }
 
 pub returns : goal.returns
 unfolding lane_at
@@ -33,7 +35,7 @@ returns c =
     let w = c.columns_at-width in
     let laid = c.lay_group-laid in
     let g = laid.ensures.all in
-    let columns : List ℕ = w.new.1.1.1.1.1.0 in
+    let columns : List ℕ = w.new.columns in
     let plans : ℕ → List ℕ = λ k. plan_at a.records.now a.steps.now (a.h + k) in
     let some : 0 < laid.result.next - a.h = omega (arith, laid.ensures.some) in
     let here : a.h + 0 ≡ a.h = omega arith in

@@ -16,7 +16,11 @@ returns-then-l-eq0 c =
     rw none (sym (filled_none most_flows _))
 
 pub columns_at-width-requires : goal.columns_at-width-requires
-columns_at-width-requires c = let pre = c.requires in (pre.formed, (pre.most_nodes_in_bounds, (omega arith, λ x h. zeros 64 x)))
+columns_at-width-requires c = let pre = c.requires in record {
+      formed = pre.formed;
+      most_nodes_in_bounds = pre.most_nodes_in_bounds;
+      columns_len = (omega arith, λ x h. zeros 64 x);
+    }
 
 pub slice_bounds-figures_by-end : goal.slice_bounds-figures_by-end
 slice_bounds-figures_by-end c = sym c.columns_at-width.ensures.size
@@ -34,5 +38,5 @@ returns c =
     let a = c.args in
     let w = c.columns_at-width in
     c.figures_by.ensures
-    ∙ filled_same most_flows (λ (h : ℕ). figure_by w.new.1.1.1.1.1.0 w.result (plan_at a.records.now a.steps.now h))
+    ∙ filled_same most_flows (λ (h : ℕ). figure_by w.new.columns w.result (plan_at a.records.now a.steps.now h))
     (interference (facts_in 0 0 a.rows.now a.records.now a.steps.now) a.l) a.l (omega (arith, c.requires.formed.most)) w.ensures.figure

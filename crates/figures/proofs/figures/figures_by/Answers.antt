@@ -21,10 +21,11 @@ slice_bounds-lay_group-end c = refl
 
 pub lay_group-laid-requires : goal.lay_group-laid-requires
 lay_group-laid-requires c =
-    let loop = c.loop-h in (
-      (omega arith, c.requires.l_lt_most_flows.0, c.requires.l_lt_most_flows.1, c.requires.l_lt_most_flows.2, c.requires.l_lt_most_flows.3, c.requires.l_lt_most_flows.4),
-      ((loop.invariant.1, loop.invariant.2, c.requires.by_index), (refl, λ j. zeros 32 j)),
-    )
+    let loop = c.loop-h in record {
+      first_lt_l = (omega arith, c.requires.l_lt_most_flows.0, c.requires.l_lt_most_flows.1, c.requires.l_lt_most_flows.2, c.requires.l_lt_most_flows.3, c.requires.l_lt_most_flows.4);
+      start_value = (loop.invariant.1, loop.invariant.2, c.requires.by_index);
+      words_len = (refl, λ j. zeros 32 j);
+    }
 
 pub slice_bounds-worked_out-end : goal.slice_bounds-worked_out-end
 slice_bounds-worked_out-end c = sym c.lay_group-laid.ensures.all.laid.size

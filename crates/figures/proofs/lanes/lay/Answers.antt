@@ -1,10 +1,10 @@
 -- `figures::lanes::lay` sets the marks of each step into its word. The loop's invariant: those of the first j steps are set. The measure
 -- is how many steps are left. Assumes nothing.
-use Rattle.std.proofs.Common.{◌≡◌, ◌-◌, ◌≤◌, add-one, arith, rules}
+use Rattle.std.proofs.Common.{◌≡◌, ◌-◌, ◌≤◌, ◌<◌, length, add-one, arith, rules}
 use Rattle.plans.specs.Plan.{steps_in}
 use Rattle.figures.proofs.LanesLaws.{LayingAt, laying_none, laying_more, laying_all}
 use Rattle.figures.proofs.lanes.lay.Goals as goal
-use Rattle.figures.proofs.lanes.lay.Goals.{After-slice_known-in-loop-j-1-unread}
+use Rattle.figures.proofs.lanes.lay.Goals.{In-loop-j}
 
 pub loop-j-init : goal.loop-j-init
 loop-j-init c = (omega arith, c.step_count-len.ensures, laying_none _ _ _ _)
@@ -24,10 +24,14 @@ overflow_cast-marks c = search rules
 pub offset_bounds-words-j : goal.offset_bounds-words-j
 offset_bounds-words-j c = record { fits = omega (arith, c.loop-j.invariant.1, c.requires.1.short) }
 
-pub bounds-words-j : goal.bounds-words-j
-bounds-words-j c =
+-- each step of the plan has its word
+inside : (c : In-loop-j) → c.loop-j.j < length c.loop-j.words
+inside c =
     let loop = c.loop-j in
     omega (arith, loop.invariant.1, loop.invariant.2.size, c.requires.1.short, c.requires.2)
+
+pub bounds-words-j : goal.bounds-words-j
+bounds-words-j c = inside (goal.at.bounds-words-j c).In-loop-j
 
 pub overflow_shl-words : goal.overflow_shl-words
 overflow_shl-words c = c.requires.3
@@ -36,7 +40,7 @@ pub offset_bounds-words-j-in-loop-j : goal.offset_bounds-words-j-in-loop-j
 offset_bounds-words-j-in-loop-j c = record { fits = omega (arith, c.loop-j.invariant.1, c.requires.1.short) }
 
 pub bounds-words-j-in-loop-j : goal.bounds-words-j-in-loop-j
-bounds-words-j-in-loop-j c = bounds-words-j (goal.at.bounds-words-j-in-loop-j c).After-slice_known-in-loop-j-1-unread
+bounds-words-j-in-loop-j c = inside (goal.at.bounds-words-j-in-loop-j c).In-loop-j
 
 pub overflow_add-j : goal.overflow_add-j
 overflow_add-j c = record { fits = omega (arith, c.loop-j.invariant.1, c.requires.1.short) }
@@ -48,7 +52,7 @@ loop-j-preserved c =
       omega arith,
       loop.invariant.1,
       laying_more c.args.columns.now c.args.h.now c.args.at loop.j c.marks_of-marks.result c.args.words.now loop.words
-          (bounds-words-j (goal.at.loop-j-preserved c).After-slice_known-in-loop-j-1-unread) c.requires.3 (rw c.step_at.ensures at c.marks_of-marks.ensures) loop.invariant.2,
+          (inside (goal.at.loop-j-preserved c).In-loop-j) c.requires.3 (rw c.step_at.ensures at c.marks_of-marks.ensures) loop.invariant.2,
     )
 
 pub returns : goal.returns

@@ -18,8 +18,8 @@ loop-len-init c =
     let none : a.first - a.first ≡ 0 = omega arith in (
       refl,
       rw none refl,
-      grouped_none a.columns.now a.width a.records.now a.steps.now a.first a.l a.start a.words.now c.requires.first_lt_l.0 c.requires.start_value.0.0 c.requires.start_value.0.1
-          c.requires.start_value.1.0 c.requires.start_value.1.1,
+      grouped_none a.columns.now a.width a.records.now a.steps.now a.first a.l a.start a.words.now c.requires.first_lt_l.0 c.requires.start_value.0 c.requires.start_value.1
+          c.requires.words_len.0 c.requires.words_len.1,
     )
 
 pub has_room-requires : goal.has_room-requires
@@ -49,7 +49,7 @@ pub lay-count-requires : goal.lay-count-requires
 lay-count-requires c =
     let loop = c.loop-len in (
       c.requires.first_lt_l.3,
-      rw (plan (goal.at.lay-count-requires c).After-plan_part) (c.requires.start_value.0.2 loop.laid.next (room (goal.at.lay-count-requires c).In-loop-len).0),
+      rw (plan (goal.at.lay-count-requires c).After-plan_part) (c.requires.start_value.2 loop.laid.next (room (goal.at.lay-count-requires c).In-loop-len).0),
       omega (arith, loop.invariant.2.laid.size),
       omega (arith, (room (goal.at.lay-count-requires c).In-loop-len).1),
     )
@@ -85,12 +85,12 @@ loop-len-preserved c =
     let on : loop.laid.next + 1 - a.first ≡ suc (loop.laid.next - a.first) = omega (arith, loop.invariant.2.from) in
     let inside : lane_at a.width (loop.laid.next - a.first) + a.width < 64 = rw loop.invariant.1 at (room (goal.at.loop-len-preserved c).In-loop-len).1 in
     let count : lay.result ≡ steps_in (plan_at a.records.now a.steps.now loop.laid.next) = lay.ensures.0 ∙ ap steps_in (plan (goal.at.loop-len-preserved c).After-plan_part) in
-    let asked = c.requires.start_value.0.2 loop.laid.next (room (goal.at.loop-len-preserved c).In-loop-len).0 in
+    let asked = c.requires.start_value.2 loop.laid.next (room (goal.at.loop-len-preserved c).In-loop-len).0 in
     let laid = lay.ensures.1 a.width c.requires.first_lt_l.4 c.requires.first_lt_l.5 (room (goal.at.loop-len-preserved c).In-loop-len).1 in (
       laid.size ∙ loop.invariant.0,
       rw (on, lane_on a.width (loop.laid.next - a.first), loop.invariant.1) (omega arith),
       grouped_more a.columns.now a.width a.records.now a.steps.now a.first a.l loop.laid c.len_at-len.result _ c.longer.result loop.words
-          lay.new.1.1.1.0 (room (goal.at.loop-len-preserved c).In-loop-len).0 inside c.len_at-len.ensures
+          lay.new.words (room (goal.at.loop-len-preserved c).In-loop-len).0 inside c.len_at-len.ensures
           (λ y. rw (loop.invariant.1, one_bit (lane_at a.width (loop.laid.next - a.first) + a.width) inside) (bit_only (lane_at a.width (loop.laid.next - a.first) + a.width) y))
           (omega (arith, c.longer.ensures), omega (arith, c.longer.ensures, count), omega (arith, c.longer.ensures, count, asked.short, loop.invariant.2.short)) (rw (plan (goal.at.loop-len-preserved c).After-plan_part, loop.invariant.1) at laid) loop.invariant.2,
     )

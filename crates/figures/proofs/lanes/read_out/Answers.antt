@@ -39,7 +39,7 @@ pub overflow_add-end : goal.overflow_add-end
 overflow_add-end c = record { fits = omega (arith, c.requires.3) }
 
 pub overflow_add-end-in-loop-h : goal.overflow_add-end-in-loop-h
-overflow_add-end-in-loop-h c = record { fits = omega (arith, taken-requires (goal.at.overflow_add-end-in-loop-h c).In-loop-h tt, c.requires.3) }
+overflow_add-end-in-loop-h c = record { fits = omega (arith, taken-requires (goal.at.overflow_add-end-in-loop-h c).In-loop-h, c.requires.3) }
 
 pub overflow_add-h : goal.overflow_add-h
 overflow_add-h c = record { fits = omega (arith, c.requires.2) }

@@ -13,4 +13,4 @@ overflow_sub-through c = omega (arith, rising_fits c.args.line (words (goal.at.o
 
 pub returns : goal.returns
 returns c =
-    column_says c.args.line c.shifted.result c.args.marks (words (goal.at.returns c).After-struct_known-5-1) (rw c.wrapping_add_u64-sum.ensures at c.shifted.ensures)
+    column_says c.args.line c.shifted.result c.args.marks (words (goal.at.returns c).After-struct_known-5-1) (rw c.wrapping_add_u64-sum.ensures.value at c.shifted.ensures)

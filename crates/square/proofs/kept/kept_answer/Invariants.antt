@@ -1,0 +1,28 @@
+-- `square::kept::kept_answer` looks at line by line. The loop's invariant: no line up to l is wrong. The measure is how many are left.
+-- Assumes nothing.
+use Prim.Native.Nat.{ℕ, ◌+◌, ◌-◌, ◌≤◌, ◌<◌}
+use mathlib.Core.Path.{◌≡◌, refl, sym, ◌∙◌, ap}
+use mathlib.Core.Bool.{false, not}
+use mathlib.Core.List.{List}
+use borrow.Author.Count.{below_more}
+use borrow.Author.Rules.{rules}
+use borrow.Author.Tests.{not-true, not-false}
+use native.Mathlib.Omega.{arith}
+use Rattle.trade.specs.Layout.{sections}
+use Rattle.trade.specs.Kept.{Tabled, wrong_line, code17}
+use Rattle.trade.proofs.Answers.{given_first_at, given_first_none}
+use Rattle.pairs.proofs.SpreadLaws.{zeros}
+use Rattle.sections.proofs.FormedLaws.{formed_less}
+use Rattle.figures.proofs.FiguresLaws.{all_heard}
+use Rattle.square.proofs.KeptLaws.{wrong_line_lem}
+use Rattle.square.proofs.kept.kept_answer.Given as goal
+
+-- the table
+abbrev pub table : ℕ → List ℕ → List ℕ → List ℕ → List ℕ → Tabled
+table flows rows records steps figures = record { sections = sections 0 flows rows records steps; figures = figures }
+
+abbrev pub invariant-loop-l : goal.invariant-loop-l
+invariant-loop-l l = (l.l ≤ l.flows) × ((k : ℕ) → k < l.l → wrong_line (table l.flows l.rows l.records l.steps l.figures) k ≡ false)
+
+abbrev pub decreases-loop-l : goal.decreases-loop-l
+decreases-loop-l l = l.flows - l.l

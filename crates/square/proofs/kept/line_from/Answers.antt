@@ -1,0 +1,48 @@
+-- `square::kept::line_from` reads figure by figure. The loop's invariant: the figures up to h are read. The measure is how many are left.
+-- Assumes nothing.
+use Prim.Native.Nat.{ℕ, ◌+◌, ◌-◌, ◌*◌, ◌≤◌, ◌<◌}
+use mathlib.Core.Path.{◌≡◌, sym}
+use mathlib.Core.List.{List}
+use native.Mathlib.Omega.{arith}
+use Rattle.trade.specs.Limits.{most_flows}
+use Rattle.trade.specs.Kept.{figure_in}
+use Rattle.square.specs.Carried.{shifted}
+use Rattle.figures.proofs.Padded.{filled, filled_none, filled_more}
+use Rattle.square.proofs.KeptLaws.{shifted_most}
+use Rattle.square.proofs.kept.line_from.Goals as goal
+use Rattle.square.proofs.kept.line_from.Invariants.{from}
+use Rattle.square.proofs.kept.line_from.Goals.{After-shift}
+
+pub loop-h-init : goal.loop-h-init
+loop-h-init c = (omega arith, sym (filled_none most_flows _))
+
+-- where it stands
+place : (c : After-shift) → most_flows * c.args.line + c.shift.result < 1024
+place c =
+    let a = c.args in
+    let h : ℕ = c.loop-h.h in
+    omega (arith, c.shift.ensures, shifted_most a.cut a.ahead a.back h, c.requires.1, c.requires.2)
+
+pub overflow_add-read : goal.overflow_add-read
+overflow_add-read c = record { fits = omega (arith, place (goal.at.overflow_add-read c).After-shift) }
+
+pub bounds-figures-line : goal.bounds-figures-line
+bounds-figures-line c = omega (arith, place (goal.at.bounds-figures-line c).After-shift, c.requires.0)
+
+pub bounds-read-h : goal.bounds-read-h
+bounds-read-h c = omega (arith, c.requires.2)
+
+pub loop-h-preserved : goal.loop-h-preserved
+unfolding figure_in
+loop-h-preserved c =
+    let a = c.args in
+    let loop = c.loop-h in (
+      omega arith,
+      rw (loop.invariant.1, c.shift.ensures) (filled_more most_flows (from a.figures.now a.line a.cut a.ahead a.back) loop.h (omega (arith, c.requires.2))),
+    )
+
+pub returns : goal.returns
+returns c =
+    let a = c.args in
+    let all : c.loop-h.h ≡ a.count = omega (arith, c.loop-h.invariant.0) in
+    rw (← all) c.loop-h.invariant.1

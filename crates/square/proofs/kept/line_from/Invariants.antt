@@ -1,0 +1,22 @@
+-- `square::kept::line_from` reads figure by figure. The loop's invariant: the figures up to h are read. The measure is how many are left.
+-- Assumes nothing.
+use Prim.Native.Nat.{ℕ, ◌+◌, ◌-◌, ◌*◌, ◌≤◌, ◌<◌}
+use mathlib.Core.Path.{◌≡◌, sym}
+use mathlib.Core.List.{List}
+use native.Mathlib.Omega.{arith}
+use Rattle.trade.specs.Limits.{most_flows}
+use Rattle.trade.specs.Kept.{figure_in}
+use Rattle.square.specs.Carried.{shifted}
+use Rattle.figures.proofs.Padded.{filled, filled_none, filled_more}
+use Rattle.square.proofs.KeptLaws.{shifted_most}
+use Rattle.square.proofs.kept.line_from.Given as goal
+
+-- the figure that is read for a place
+abbrev pub from : List ℕ → ℕ → ℕ → ℕ → ℕ → ℕ → ℕ
+from figures line cut ahead back h = figure_in figures line (shifted cut ahead back h)
+
+abbrev pub invariant-loop-h : goal.invariant-loop-h
+invariant-loop-h l = (l.h ≤ l.count) × (l.read ≡ filled most_flows (from l.figures l.line l.cut l.ahead l.back) l.h)
+
+abbrev pub decreases-loop-h : goal.decreases-loop-h
+decreases-loop-h l = l.count - l.h

@@ -13,23 +13,19 @@ use Rattle.pairs.proofs.SpreadLaws.{zeros}
 use Rattle.square.specs.Carried.{figure_with}
 use Rattle.square.proofs.CarriedLaws.{with_none}
 use Rattle.bounds.proofs.BoundsLaws.{bounded_times}
-use Rattle.bounds.proofs.kept.bounds_kept.Statement.{statement}
-use Rattle.bounds.proofs.kept.bounds_kept.Tie as tie
+use Rattle.bounds.proofs.kept.bounds_kept.Goals as goal
 
-bounds_with_requires : tie.Need-bounds-with-requires
-bounds_with_requires c κs = (c.before.before.before.requires.0, c.before.before.before.requires.1, λ i. omega (arith, zeros 32 i))
+pub bounds_with-requires : goal.bounds_with-requires
+bounds_with-requires c = (c.requires.0, c.requires.1, λ i. omega (arith, zeros 32 i))
 
-returns : tie.Need-returns
+pub returns : goal.returns
 unfolding facts_of
 returns c =
-    let a = c.before.before.before.before.args in
+    let a = c.args in
     let f : Facts = facts_in 0 a.flows [] a.records.now [] in
     let cost = figure_with most_flows (replicate most_flows 0) a.figures.now in
     let own = figure_in a.figures.now in
     c.bounds_with.ensures
     ∙ bounded_times f f refl (times_self a.flows f) (fairly f cost) (fairly f own)
     (fair_same a.flows f f (times_self a.flows f) cost own
-    (λ l h p q. with_none (replicate most_flows 0) a.figures.now l h (omega (arith, c.before.before.before.before.requires.0.most)) q))
-
-pub bounds_kept_spec : {M : Type 1} → statement M
-bounds_kept_spec = tie.close (tie.spec bounds_with_requires returns)
+    (λ l h p q. with_none (replicate most_flows 0) a.figures.now l h (omega (arith, c.requires.0.most)) q))

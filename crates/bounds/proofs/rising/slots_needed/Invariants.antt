@@ -1,0 +1,26 @@
+-- `bounds::rising::slots_needed` meets its contract: the sum is that of the flows passed. Assumes nothing.
+use Prim.Native.Nat.{ℕ, ◌+◌, ◌-◌, ◌*◌, ◌≤◌}
+use mathlib.Core.Path.{◌≡◌, ◌∙◌, ap}
+use native.Mathlib.Nat.{mul-le-mul, add_assoc}
+use native.Mathlib.Numerals.{add-one}
+use native.Mathlib.Omega.{arith}
+use lib.ListN.{get_or}
+use Rattle.trade.specs.Limits.{most_period, most_steps}
+use Rattle.trade.specs.First.{sum_to}
+use Rattle.trade.specs.Bound.{instances}
+use Rattle.trade.proofs.Sums.{sum_next}
+use Rattle.bounds.specs.Terms.{needed_in}
+use Rattle.bounds.proofs.rising.slots_needed.Given as goal
+
+-- the most that one flow above adds
+abbrev pub most : ℕ
+most = 2 * most_period * 255
+
+abbrev pub invariant-loop-h : goal.invariant-loop-h
+invariant-loop-h l =
+    (l.h ≤ l.above)
+    × (l.sum ≤ most_steps + most * l.h)
+    × (l.sum ≡ needed_in l.len l.h l.figures l.periods l.carries l.r)
+
+abbrev pub decreases-loop-h : goal.decreases-loop-h
+decreases-loop-h l = l.above - l.h

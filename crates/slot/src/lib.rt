@@ -1,5 +1,6 @@
 // One slot: releases, which flows go, and their grants.
 #![tactic(auto)]
+
 pub mod choice;
 pub mod granting;
 pub mod release;

@@ -1,19 +1,17 @@
 -- `slot::choice::chosen` takes the flows in record order. The measure is how many flows are left. Assumes nothing.
-use Prim.Native.Nat.{ℕ, ◌+◌, ◌-◌, ◌≤◌}
+use Prim.Native.Nat.{ℕ, ◌+◌}
 use mathlib.Core.Path.{◌≡◌, refl, ap₂}
-use mathlib.Core.Logic.{⊎_elim}
 use native.Mathlib.Numerals.{add-one}
 use native.Mathlib.Omega.{arith}
-use borrow.Author.Rules.{rules}
 use Rattle.trade.specs.Limits.{most_steps}
 use Rattle.trade.specs.First.{sum_to}
 use Rattle.trade.specs.Layout.{field}
-use Rattle.trade.specs.Facts.{facts_in, facts_of, first_step}
+use Rattle.trade.specs.Facts.{facts_of, first_step}
 use Rattle.trade.specs.Slot.{granted_by, greedy, unfinished, next_step, done_now}
 use Rattle.trade.proofs.Sums.{sum_most, sum_next}
 use Rattle.nodes.proofs.MaskLaws.{one_bit_of}
 use Rattle.slot.specs.States.{place_of, state_of}
-use Rattle.slot.proofs.ChoiceLaws.{Chosen, chosen_none, chosen_all, turn_asks, chosen_waits, chosen_goes}
+use Rattle.slot.proofs.ChoiceLaws.{chosen_none, chosen_all, turn_asks, chosen_waits, chosen_goes}
 use Rattle.slot.proofs.choice.chosen.Goals as goal
 use Rattle.slot.proofs.choice.chosen.Goals.{else-taken, then-taken}
 
@@ -70,10 +68,13 @@ loop-i-preserved c =
       omega arith,
       rw (add-one loop.i, sum_next (λ (k : ℕ). field a.records.now k 4) loop.i) (ap₂ ◌+◌ loop.invariant.1 len),
       rw (add-one loop.i)
-          (elim c.if-taken.branch [ then-taken w ↦ rw (w.2, w.3, one_bit_of 32 loop.i (omega (arith, taken, c.requires.0.most)))
-          (chosen_goes a.flows a.rows.now a.records.now a.steps.now (record { slot = 0; done = place_of a.run.flows }) c.requires.0 loop.i taken loop.set loop.places loop.sent loop.invariant.2 turned.result
-          (rw (loop.invariant.1, len) at turned.ensures) w.if-taken.true) | else-taken w ↦ rw (w.1, w.2) (chosen_waits a.flows a.rows.now a.records.now a.steps.now (record { slot = 0; done = place_of a.run.flows }) c.requires.0 loop.i taken loop.set loop.places loop.sent loop.invariant.2 turned.result
-          (rw (loop.invariant.1, len) at turned.ensures) w.if-taken.false) ]),
+          (elim c.if-taken.branch [
+            | then-taken w ↦ rw (w.places-is, w.sent-is, one_bit_of 32 loop.i (omega (arith, taken, c.requires.0.most)))
+                (chosen_goes a.flows a.rows.now a.records.now a.steps.now (record { slot = 0; done = place_of a.run.flows }) c.requires.0 loop.i taken loop.set loop.places loop.sent loop.invariant.2 turned.result
+                (rw (loop.invariant.1, len) at turned.ensures) w.if-taken.true)
+            | else-taken w ↦ rw (w.places-is, w.sent-is) (chosen_waits a.flows a.rows.now a.records.now a.steps.now (record { slot = 0; done = place_of a.run.flows }) c.requires.0 loop.i taken loop.set loop.places loop.sent loop.invariant.2 turned.result
+                (rw (loop.invariant.1, len) at turned.ensures) w.if-taken.false)
+          ]),
     )
 
 pub returns : goal.returns

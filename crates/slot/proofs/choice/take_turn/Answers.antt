@@ -3,7 +3,6 @@ use mathlib.Core.Path.{refl, sym, ◌∙◌, ap}
 use Rattle.nodes.specs.Grants.{clashes_with}
 use Rattle.slot.specs.Choice.{next_of}
 use Rattle.slot.proofs.TurnLaws.{turned_finished, turned_clashes, turned_goes}
-use borrow.Author.Rules.{rules}
 use Rattle.slot.proofs.choice.take_turn.Goals as goal
 
 pub returns-then-turn-done : goal.returns-then-turn-done

@@ -8,7 +8,6 @@ use native.Mathlib.Omega.{arith}
 use lib.Bits.{and_le_l, and_le_r}
 use lib.Count.{count_trailing_zeros, trailing_le}
 use lib.ListN.{length, get_or, length-take, length-drop}
-use borrow.Author.Rules.{rules}
 use Rattle.trade.specs.Limits.{most_flows, most_steps, grant_bytes}
 use Rattle.trade.specs.Bytes.{bit}
 use Rattle.trade.specs.Facts.{flow_in}
@@ -19,7 +18,7 @@ use Rattle.plans.specs.Plan.{no_step}
 use Rattle.slot.specs.States.{place_of}
 use Rattle.slot.specs.Choice.{sent_at}
 use Rattle.slot.specs.Granting.{grant_by}
-use Rattle.slot.proofs.GrantingLaws.{Left, left_all, left_next, Given, given_none, flow_goes, flow_done, given_room, given_few, given_goes, given_length, given_all}
+use Rattle.slot.proofs.GrantingLaws.{left_all, left_next, given_none, flow_goes, flow_done, given_room, given_few, given_goes, given_all}
 use Rattle.slot.proofs.granting.grant_all.Goals as goal
 use Rattle.slot.proofs.granting.grant_all.Goals.{In-loop-rest}
 
@@ -133,7 +132,7 @@ loop-rest-preserved c =
           (given_goes a.records.now a.firsts a.run a.choice a.grants.now loop.invariant.0 loop.rest p loop.invariant.2 low c.requires below loop.places loop.count
           loop.grants loop.invariant.4 grant.result
           (grant.ensures ∙ ap (λ (w : Flow). grant_by w (get_or a.firsts p (record { 0 = 0 })) a.run.slot (get_or loop.places p (idle_of 0)).done (get_or a.choice.sent p no_step)) c.record_at.ensures)
-          put.new.0 put.ensures),
+          put.new.part put.ensures),
     )
 
 pub returns : goal.returns

@@ -1,9 +1,7 @@
 -- `slot::granting::grant_of` names the instance and the step. Assumes nothing.
 use mathlib.Core.Path.{ap}
-use borrow.Author.Rules.{rules}
 use Rattle.trade.specs.declared.clock.Instance.{Instance}
 use Rattle.slot.specs.Granting.{grant_by}
-use Rattle.slot.proofs.release.instance_at.Reads as instance_at_reads
 use Rattle.slot.proofs.granting.grant_of.Goals as goal
 
 pub returns : goal.returns

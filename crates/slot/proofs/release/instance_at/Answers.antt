@@ -4,7 +4,6 @@ use mathlib.Core.Path.{◌≡◌, refl, sym}
 use native.Mathlib.Nat.{zero-div}
 use native.Mathlib.Omega.{arith}
 use Rattle.slot.specs.Release.{instance_by}
-use borrow.Author.Rules.{rules}
 use Rattle.slot.proofs.release.instance_at.Goals as goal
 
 pub returns-then-slot-first : goal.returns-then-slot-first

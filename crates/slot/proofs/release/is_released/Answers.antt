@@ -1,7 +1,6 @@
 -- `slot::release::is_released` counts from the first release, and before it nothing is released. Assumes nothing.
 use borrow.Author.Tests.{lt-leb, le-leb}
 use Rattle.slot.specs.Release.{released_at}
-use borrow.Author.Rules.{rules}
 use Rattle.slot.proofs.release.is_released.Goals as goal
 
 pub returns-then-slot-first : goal.returns-then-slot-first

@@ -2,7 +2,6 @@
 use native.Mathlib.Omega.{arith}
 use lib.ListN.{length-set}
 use Rattle.slot.proofs.WriterLaws.{grant_written}
-use borrow.Author.Rules.{rules}
 use Rattle.slot.proofs.writer.write_grant.Goals as goal
 
 pub bounds-part-7 : goal.bounds-part-7

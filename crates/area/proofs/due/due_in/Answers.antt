@@ -1,0 +1,53 @@
+-- `area::due::due_in` looks at one flow after the other. The measure is how many are left. Assumes nothing.
+use mathlib.Core.Path.{◌≡◌, sym, ◌∙◌}
+use native.Mathlib.Omega.{arith}
+use Rattle.trade.specs.Facts.{flow_in}
+use Rattle.area.proofs.DueLaws.{seen_none, seen_stays, seen_released, seen_clear, seen_after, seen_firsts, seen_answer}
+use Rattle.area.proofs.due.due_in.Goals as goal
+use Rattle.area.proofs.due.due_in.Goals.{else-is_released, then-is_released}
+
+pub loop-i-init : goal.loop-i-init
+loop-i-init c =
+    let a = c.args in
+    (omega arith, seen_none a.flows a.records.now a.run _)
+
+pub is_released-requires : goal.is_released-requires
+unfolding flow_in
+is_released-requires c =
+    rw c.record_at-flow.ensures (c.requires.1 c.loop-i.i c.loop-i-test.true)
+
+pub loop-i-preserved : goal.loop-i-preserved
+loop-i-preserved c =
+    let a = c.args in
+    let loop = c.loop-i in
+    let taken = c.loop-i-test.true in
+    let flow = c.record_at-flow in
+    let bad = c.is_bad-doubt.ensures in
+    let known = c.is_released.ensures in (
+      omega arith,
+      elim c.if-is_released.branch [ then-is_released w ↦ rw (w.places-is, w.doubt-is, bad) (seen_released a.flows a.records.now a.run _ loop.i loop.places loop.firsts loop.doubt loop.invariant.1 (omega (arith, taken, c.requires.2)) taken flow.result flow.ensures (sym known ∙ w.if-is_released.true) (omega (arith, loop.invariant.1.size, taken, c.requires.3, c.requires.2))) | else-is_released w ↦ rw (w.places-is, w.doubt-is, bad) (seen_stays a.flows a.records.now a.run _ loop.i loop.places loop.firsts loop.doubt loop.invariant.1 (omega (arith, taken, c.requires.2)) taken flow.result flow.ensures (sym known ∙ w.if-is_released.false)) ],
+    )
+
+pub answer_in_doubt-requires : goal.answer_in_doubt-requires
+answer_in_doubt-requires c =
+    let a = c.args in
+    let loop = c.loop-i in
+    let all : loop.i ≡ a.flows = omega arith in
+    let seen = rw all at loop.invariant.1 in record {
+      flows_in_bounds = (c.requires.0, c.requires.1, c.requires.2);
+      run_value = λ e.
+          seen_answer a.flows a.records.now a.run _ loop.places loop.firsts loop.doubt seen
+          ∙ seen_clear a.flows a.records.now a.run c.has_stray.result loop.places loop.firsts loop.doubt seen c.has_stray.ensures e;
+    }
+
+pub returns : goal.returns
+returns c =
+    let a = c.args in
+    let loop = c.loop-i in
+    let all : loop.i ≡ a.flows = omega arith in
+    let seen = rw all at loop.invariant.1 in
+    record {
+      answer = c.answer_in_doubt.ensures ∙ seen_answer a.flows a.records.now a.run _ loop.places loop.firsts loop.doubt seen;
+      after = seen_after a.flows a.records.now a.run _ loop.places loop.firsts loop.doubt seen;
+      firsts = seen_firsts a.flows a.records.now a.run _ loop.places loop.firsts loop.doubt seen;
+    }

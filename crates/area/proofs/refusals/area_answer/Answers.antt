@@ -1,0 +1,50 @@
+-- `area::refusals::area_answer` no place passed is bad. The measure is how many are left. Assumes nothing.
+use mathlib.Core.Path.{◌≡◌, sym, ◌∙◌}
+use mathlib.Core.List.{[]}
+use native.Mathlib.Omega.{arith}
+use borrow.Author.Count.{below_more}
+use Rattle.trade.specs.Facts.{facts_in}
+use Rattle.slot.specs.States.{state_of}
+use Rattle.area.proofs.RefusalsLaws.{code10_late, code10_at, code10_none, place_shown}
+use Rattle.area.specs.Dues.{due_by}
+use Rattle.area.proofs.refusals.area_answer.Invariants.{bad}
+use Rattle.area.proofs.refusals.area_answer.Goals as goal
+use Rattle.area.proofs.refusals.area_answer.Goals.{After-is_bad_place}
+
+-- what is asked of a place is whether it is bad
+asked :
+    (c : After-is_bad_place)
+    → c.is_bad_place.result
+    ≡ bad c.args.flows c.args.records.now c.args.firsts c.args.run c.loop-i.i
+asked c =
+    let a = c.args in
+    c.is_bad_place.ensures ∙ place_shown a.flows a.records.now a.firsts a.run c.loop-i.i
+
+pub returns-then-slot-gt-END : goal.returns-then-slot-gt-END
+unfolding state_of
+returns-then-slot-gt-END c =
+    let a = c.args in
+    c.refused.ensures ∙ sym (code10_late (facts_in 0 a.flows [] a.records.now []) (due_by (facts_in 0 a.flows [] a.records.now []) a.firsts a.run) (state_of a.run) c.if-slot-gt-END.true)
+
+pub loop-i-init : goal.loop-i-init
+loop-i-init c = (omega arith, omega arith, λ k h. absurd (omega arith))
+
+pub returns-then-is_bad_place : goal.returns-then-is_bad_place
+unfolding state_of
+returns-then-is_bad_place c =
+    let a = c.args in
+    let loop = c.loop-i in
+    c.refused-then-is_bad_place.ensures
+    ∙ sym (code10_at (facts_in 0 a.flows [] a.records.now []) (due_by (facts_in 0 a.flows [] a.records.now []) a.firsts a.run) (state_of a.run) loop.i loop.invariant.1 (omega arith) loop.invariant.2 (sym (asked (goal.at.returns-then-is_bad_place c).After-is_bad_place) ∙ c.if-is_bad_place.true))
+
+pub loop-i-preserved : goal.loop-i-preserved
+loop-i-preserved c =
+    let loop = c.loop-i in
+    (omega arith, loop.invariant.1, below_more _ _ loop.invariant.2 (sym (asked (goal.at.loop-i-preserved c).After-is_bad_place) ∙ c.if-is_bad_place.false))
+
+pub returns : goal.returns
+unfolding state_of
+returns c =
+    let a = c.args in
+    let loop = c.loop-i in
+    c.done.ensures ∙ sym (code10_none (facts_in 0 a.flows [] a.records.now []) (due_by (facts_in 0 a.flows [] a.records.now []) a.firsts a.run) (state_of a.run) loop.invariant.1 (λ k h. loop.invariant.2 k (omega arith)))

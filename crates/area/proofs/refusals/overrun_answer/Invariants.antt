@@ -1,0 +1,24 @@
+-- `area::refusals::overrun_answer` no flow passed is overrun. The measure is how many are left. Assumes nothing.
+use Prim.Native.Nat.{ℕ, ◌-◌, ◌≤◌, ◌<◌}
+use mathlib.Core.Path.{◌≡◌}
+use mathlib.Core.Bool.{false, Bool}
+use mathlib.Core.List.{List, []}
+use Rattle.trade.specs.Facts.{facts_in}
+use Rattle.trade.specs.SlotCodes.{overrun}
+use Rattle.slot.specs.States.{state_of}
+use Rattle.trade.specs.declared.clock.Slot.{Slot}
+use Rattle.trade.specs.declared.state.Run.{Run}
+use Rattle.area.specs.Dues.{due_by}
+use Rattle.area.proofs.refusals.overrun_answer.Given as goal
+
+-- a flow of a run is overrun
+abbrev pub late : ℕ → List ℕ → List Slot → Run → ℕ → Bool
+late flows records firsts run k =
+    overrun (facts_in 0 flows [] records []) (due_by (facts_in 0 flows [] records []) firsts run) (state_of run) k
+
+abbrev pub invariant-loop-i : goal.invariant-loop-i
+invariant-loop-i l =
+    (l.i ≤ l.flows) × ((k : ℕ) → k < l.i → late l.flows l.records l.firsts (record { slot = l.slot; flows = l.places }) k ≡ false)
+
+abbrev pub decreases-loop-i : goal.decreases-loop-i
+decreases-loop-i l = l.flows - l.i

@@ -65,9 +65,9 @@ pub fn table_of<'a>(
     let mut c = [0u8; Flow::MOST * Flow::RECORD_BYTES];
     let mut s = [0u8; Flow::MOST * Plan::MOST * Plan::STEP_BYTES];
     let mut i = [0u8; Flow::MOST * Flow::MOST];
-    bytes::copy(rows, &mut r);
-    bytes::copy(records, &mut c);
-    bytes::copy(steps, &mut s);
+    r[..rows.len()].copy_from_slice(rows);
+    c[..records.len()].copy_from_slice(records);
+    s[..steps.len()].copy_from_slice(steps);
     keep(flows as usize, rows, records, steps, &mut i);
     Table {
         nodes,

@@ -6,12 +6,8 @@ use Rattle.trade.specs.Facts.{facts_of, first_step, all_steps}
 use Rattle.trade.specs.Table.{used, table_of, empty_table}
 use Rattle.trade.specs.Kept.{kept_of, empty_kept}
 use Rattle.trade.proofs.Kept.{figures_none}
-use Rattle.table.proofs.table.Table.empty.Statement.{statement}
-use Rattle.table.proofs.table.Table.empty.Tie as tie
+use Rattle.table.proofs.table.Table.empty.Goals as goal
 
-returns : tie.Need-returns
+pub returns : goal.returns
 unfolding empty_kept kept_of empty_table table_of used padded all_steps first_step facts_of sum_to
 returns c = λ i. record { sections = empty_table; figures = sym (figures_none (facts_of empty_table) refl) i }
-
-pub empty_spec : {M : Type 1} → statement M
-empty_spec = tie.close (tie.spec returns)

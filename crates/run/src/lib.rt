@@ -1,4 +1,5 @@
 // Runs of a book: started, and advanced by one slot at a time.
 #![tactic(auto)]
+
 pub mod advance;
 pub mod start;

@@ -1,5 +1,7 @@
 // The three calls of the radio stack, written in C. Each answers one number: code × 65,536 plus the number that goes with the code.
+// radio_c hands them out to C.
 #![tactic(auto)]
+
 ghost use Rattle.radio.specs.Calls.{AnswersCheck, AnswersStart, AnswersAdvance};
 
 use bounds::acceptance::check;
@@ -7,8 +9,7 @@ use run::advance::advance;
 use run::start::start;
 
 // CHECK a book.
-#[unsafe(no_mangle)]
-pub extern "C" fn slot_check(book: &[u8]) -> u32
+pub fn slot_check(book: &[u8]) -> u32
     ensures { AnswersCheck book.now result }
 {
     let checked = check(book);
@@ -17,8 +18,7 @@ pub extern "C" fn slot_check(book: &[u8]) -> u32
 }
 
 // START a run of a book, in a lent run area.
-#[unsafe(no_mangle)]
-pub extern "C" fn slot_start(book: &[u8], area: &mut [u8]) -> u32
+pub fn slot_start(book: &[u8], area: &mut [u8]) -> u32
     ensures { AnswersStart (record { book = book.entry.now; area = area.old }) result area.new }
 {
     let answer = start(book, area);
@@ -26,8 +26,7 @@ pub extern "C" fn slot_start(book: &[u8], area: &mut [u8]) -> u32
 }
 
 // ADVANCE a run by one slot, with the grants in a lent buffer.
-#[unsafe(no_mangle)]
-pub extern "C" fn slot_advance(book: &[u8], area: &mut [u8], grants: &mut [u8]) -> u32
+pub fn slot_advance(book: &[u8], area: &mut [u8], grants: &mut [u8]) -> u32
     ensures { AnswersAdvance (record { book = book.entry.now; area = area.old; grants = grants.old }) result
         area.new grants.new }
 {

@@ -5,15 +5,13 @@ BOOK = examples/a.book
 
 # The listing of a book, by the proved program.
 list:
-	@mkdir -p target
-	@rt check slotlist >target/make.log 2>&1 || { cat target/make.log; exit 1; }
+	@tools/build.sh slotlist
 	@tools/list.sh $(BOOK)
 
 # Why each flow of a book waits in each of its first slots, or that it does not, by the proved program; `make why SLOTS=7` for so many slots.
 .PHONY: why
 why:
-	@mkdir -p target
-	@rt check planner >target/make.log 2>&1 || { cat target/make.log; exit 1; }
+	@tools/build.sh planner
 	@tools/program.sh planner why $(SLOTS) <$(BOOK)
 
 test:
@@ -38,4 +36,4 @@ capacity:
 	OUT=target/capacity host/run.sh bench capacity
 
 fmt:
-	rt fmt
+	for crate in crates/*/; do (cd $$crate && rt fmt) || exit 1; done

@@ -14,13 +14,22 @@ quietly() {
 }
 
 cd "$here/.."
-quietly rt staticlib radio
-quietly rt staticlib middleware
-quietly rt check changes
-mkdir -p "$work/crates/tables/src" "$work/target"
-cp -r crates crates.txt "$work"
-cp -r target/rlib target/stamp "$work/target"
-cp host/tables.rattle "$work/crates/tables/src/lib.rt"
-echo "tables: trade sections bounds table changes bytes" >>"$work/crates.txt"
-(cd "$work" && quietly rt staticlib tables)
-mv "$work/target/staticlib/libtables.a" target/staticlib
+quietly tools/archive.sh radio
+quietly tools/archive.sh middleware
+# So that the copies take what is built here.
+(cd crates/changes && quietly rt lib)
+for crate in crates/*/; do
+    mkdir -p "$work/$crate"
+    for part in src specs proofs; do
+        [ ! -d "$crate$part" ] || cp -r "$crate$part" "$work/$crate"
+    done
+done
+mkdir -p "$work/crates/tables_c/src" "$work/tools"
+cp host/tables.rattle "$work/crates/tables_c/src/lib.rt"
+{
+    cat crates.txt
+    echo "tables_c staticlib: trade sections bounds table changes"
+} >"$work/crates.txt"
+cp tools/archive.sh "$work/tools"
+quietly "$work/tools/archive.sh" tables
+cp "$work/target/staticlib/libtables.a" target/staticlib

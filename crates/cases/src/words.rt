@@ -5,6 +5,7 @@ use crate::orders::Order;
 use crate::said::{say_bounds, say_bytes};
 use listing::lines::print_answer;
 use listing::listed::list;
+use std::io;
 use table::table::Table;
 use trade::{Flow, Node, Plan};
 
@@ -63,22 +64,22 @@ impl Desk {
         }
     }
 
-    fn print(self, order: Order, book: &[u8]) {
+    fn print(self, rt: &impl Print, order: Order, book: &[u8]) -> io::Result<()> {
         let word = order.word;
         let area = self.area;
         match word {
-            b'?' => print_answer(self.answer),
-            b'b' => say_bounds(book),
-            b'v' => say_bytes(&area, order.n),
-            b'l' => list(book),
-            _ => {}
+            b'?' => print_answer(rt, self.answer),
+            b'b' => say_bounds(rt, book),
+            b'v' => say_bytes(rt, &area, order.n),
+            b'l' => list(rt, book),
+            _ => Ok(()),
         }
     }
 
-    pub(crate) fn obey(self, order: Order) -> Self {
+    pub(crate) fn obey(self, rt: &impl Print, order: Order) -> io::Result<Self> {
         let room = self.room;
         let book = rest(&room, self.from);
-        self.print(order, book);
-        self.call(order, book)
+        self.print(rt, order, book)?;
+        Ok(self.call(order, book))
     }
 }

@@ -1,4 +1,5 @@
-// What the programs print.
+// What the programs read and print.
 #![tactic(auto)]
+pub mod input;
 pub mod lines;
 pub mod listed;

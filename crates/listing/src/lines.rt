@@ -2,68 +2,68 @@
 ghost use Rattle.std.specs.Prelude.{◌≤◌, length};
 ghost use Rattle.trade.specs.Limits.{grant_bytes};
 
-use libc::STDOUT_FILENO;
 use numbers::numbers::{long_at, word_at};
+use std::io;
 use trade::{Answer, Flow, Slot};
 
 // A word, or the end of a line.
-pub fn print(text: &[u8]) {
-    io::write_all(STDOUT_FILENO, text);
+pub fn print(rt: &impl Print, text: &[u8]) -> io::Result<()> {
+    rt.write_all(text)
 }
 
 // One more number of a line.
-pub fn print_next(n: u64) {
-    print(b" ");
-    io::print_decimal(STDOUT_FILENO, n);
+pub fn print_next(rt: &impl Print, n: u64) -> io::Result<()> {
+    print(rt, b" ")?;
+    rt.print(n)
 }
 
-pub fn print_byte(n: u8) {
-    print_next(n as u64);
+pub fn print_byte(rt: &impl Print, n: u8) -> io::Result<()> {
+    print_next(rt, n as u64)
 }
 
-pub fn print_word(n: u16) {
-    print_next(n as u64);
+pub fn print_word(rt: &impl Print, n: u16) -> io::Result<()> {
+    print_next(rt, n as u64)
 }
 
 // code number, at the end of a line
-pub fn print_answer(answer: Answer) {
-    print_word(answer.code);
-    print_next(answer.number);
-    print(b"\n");
+pub fn print_answer(rt: &impl Print, answer: Answer) -> io::Result<()> {
+    print_word(rt, answer.code)?;
+    print_next(rt, answer.number)?;
+    print(rt, b"\n")
 }
 
 // REFUSED code number
-pub fn print_refusal(answer: Answer) {
-    print(b"REFUSED");
-    print_answer(answer);
+pub fn print_refusal(rt: &impl Print, answer: Answer) -> io::Result<()> {
+    print(rt, b"REFUSED")?;
+    print_answer(rt, answer)
 }
 
 // BOOK n m
-pub fn print_book(nodes: usize, flows: usize) {
-    print(b"BOOK");
-    print_next(nodes as u64);
-    print_next(flows as u64);
-    print(b"\n");
+pub fn print_book(rt: &impl Print, nodes: usize, flows: usize) -> io::Result<()> {
+    print(rt, b"BOOK")?;
+    print_next(rt, nodes as u64)?;
+    print_next(rt, flows as u64)?;
+    print(rt, b"\n")
 }
 
 // BOUND id R D
-pub(crate) fn print_bound(flow: Flow, bound: u16) {
-    print(b"BOUND");
-    print_word(flow.id);
-    print_word(bound);
-    print_word(flow.deadline);
-    print(b"\n");
+pub(crate) fn print_bound(rt: &impl Print, flow: Flow, bound: u16) -> io::Result<()> {
+    print(rt, b"BOUND")?;
+    print_word(rt, flow.id)?;
+    print_word(rt, bound)?;
+    print_word(rt, flow.deadline)?;
+    print(rt, b"\n")
 }
 
 // slot id instance step sender receiver, from the bytes of a grant
-pub(crate) fn print_grant(slot: Slot, grant: &[u8])
+pub(crate) fn print_grant(rt: &impl Print, slot: Slot, grant: &[u8]) -> io::Result<()>
     requires { grant_bytes ≤ length grant.now }
 {
-    io::print_decimal(STDOUT_FILENO, slot.0 as u64);
-    print_word(word_at(grant, 0));
-    print_next(long_at(grant, 2) as u64);
-    print_byte(grant[6]);
-    print_byte(grant[7]);
-    print_byte(grant[8]);
-    print(b"\n");
+    rt.print(slot.0)?;
+    print_word(rt, word_at(grant, 0))?;
+    print_next(rt, long_at(grant, 2) as u64)?;
+    print_byte(rt, grant[6])?;
+    print_byte(rt, grant[7])?;
+    print_byte(rt, grant[8])?;
+    print(rt, b"\n")
 }

@@ -8,39 +8,47 @@ use bounds::acceptance::check;
 use run::advance::advance;
 use run::start::start;
 use sections::records::record_at;
+use std::io;
 use trade::{Flow, Grant, Run, Slot};
 
 // So many slots are listed.
 pub const SLOTS: u32 = 12;
 
 // The bound of each flow, in record order.
-fn list_bounds(flows: usize, records: &[u8], bounds: &[u16; Flow::MOST])
+fn list_bounds(
+    rt: &impl Print,
+    flows: usize,
+    records: &[u8],
+    bounds: &[u16; Flow::MOST],
+) -> io::Result<()>
     requires { (flows ≤ most_flows) × (record_bytes * flows ≤ length records.now) }
 {
     let mut i = 0;
     while i < flows {
-        print_bound(record_at(records, i), bounds[i]);
+        print_bound(rt, record_at(records, i), bounds[i])?;
         i += 1;
     }
+    Ok(())
 }
 
 // The grants of a slot, of which there is at most one for each flow place.
-fn list_grants(slot: Slot, count: u64, grants: &[u8])
+fn list_grants(rt: &impl Print, slot: Slot, count: u64, grants: &[u8]) -> io::Result<()>
     requires { grant_bytes * most_flows ≤ length grants.now }
 {
     let mut i = 0;
     while i < Flow::MOST {
         if count <= i as u64 {
-            return;
+            return Ok(());
         }
         let at = Grant::BYTES * i;
-        print_grant(slot, &grants[at..]);
+        print_grant(rt, slot, &grants[at..])?;
         i += 1;
     }
+    Ok(())
 }
 
 // A run from its start, slot by slot.
-fn list_run(book: &[u8]) {
+fn list_run(rt: &impl Print, book: &[u8]) -> io::Result<()> {
     let mut area = [0u8; Run::AREA_BYTES];
     let mut grants = [0u8; Flow::MOST * Grant::BYTES];
     start(book, &mut area);
@@ -48,31 +56,29 @@ fn list_run(book: &[u8]) {
     while slot.0 < SLOTS {
         let answer = advance(book, &mut area, &mut grants);
         if answer.code != 0 {
-            print_refusal(answer);
-            return;
+            return print_refusal(rt, answer);
         }
-        list_grants(slot, answer.number, &grants);
+        list_grants(rt, slot, answer.number, &grants)?;
         slot = Slot(slot.0 + 1);
     }
+    Ok(())
 }
 
 // A book is refused as a whole, before anything else is printed.
-pub fn list(book: &[u8]) {
+pub fn list(rt: &impl Print, book: &[u8]) -> io::Result<()> {
     let opened = open_book(book);
     let answer = opened.answer;
     if answer.code != 0 {
-        print_refusal(answer);
-        return;
+        return print_refusal(rt, answer);
     }
     let checked = check(book);
     let bounded = checked.answer;
     if bounded.code != 0 {
-        print_refusal(bounded);
-        return;
+        return print_refusal(rt, bounded);
     }
     let f = opened.frame;
     let bounds = checked.bounds;
-    print_book(f.nodes, f.flows);
-    list_bounds(f.flows, records_of(book, f), &bounds);
-    list_run(book);
+    print_book(rt, f.nodes, f.flows)?;
+    list_bounds(rt, f.flows, records_of(book, f), &bounds)?;
+    list_run(rt, book)
 }

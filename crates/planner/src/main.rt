@@ -7,20 +7,19 @@
 mod reasons;
 mod words;
 
-use libc::STDIN_FILENO;
+use listing::input::read_full;
 use listing::lines::print;
+use std::io;
 use words::Asked;
 
 // Only the bytes that fill the buffer count.
-fn main() {
-    let mut buffer = io::buffer();
-    match words::question() {
+fn main(rt: HostRuntime) -> io::Result<()> {
+    let mut buffer = [0u8; 4096];
+    match words::question(&rt) {
         Asked::Why(slots) => {
-            let n = io::read_full(STDIN_FILENO, &mut buffer);
-            reasons::tell(&buffer[..n], slots);
+            let n = read_full(&mut rt.reader(), &mut buffer)?;
+            reasons::tell(&rt, &buffer[..n], slots)
         }
-        Asked::Nothing => {
-            print(b"USAGE planner why [SLOTS] <BOOK\n");
-        }
+        Asked::Nothing => print(&rt, b"USAGE planner why [SLOTS] <BOOK\n"),
     }
 }

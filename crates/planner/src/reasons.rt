@@ -7,6 +7,7 @@ use listing::lines::{print, print_book, print_next, print_refusal, print_word};
 use run::advance::advance;
 use run::start::start;
 use sections::records::record_at;
+use std::io;
 use trade::{Flow, Grant, Run, Slot, Told};
 use why::told::why;
 
@@ -22,78 +23,91 @@ fn id_at(flows: usize, records: &[u8], i: usize) -> u16
 }
 
 // The end of a line: what is told. The flow that is waited on is named by its id.
-fn print_told(flows: usize, records: &[u8], told: Told)
+fn print_told(rt: &impl Print, flows: usize, records: &[u8], told: Told) -> io::Result<()>
     requires { record_bytes * flows ≤ length records.now }
 {
     match told {
         Told::Refused(answer) => {
-            print(b" ");
-            print_refusal(answer);
+            print(rt, b" ")?;
+            print_refusal(rt, answer)
         }
-        Told::NotReleased => print(b" not released\n"),
-        Told::Finished => print(b" finished\n"),
-        Told::Granted => print(b" granted\n"),
+        Told::NotReleased => print(rt, b" not released\n"),
+        Told::Finished => print(rt, b" finished\n"),
+        Told::Granted => print(rt, b" granted\n"),
         Told::WaitingOn(place) => {
-            print(b" waits on");
-            print_word(id_at(flows, records, place as usize));
-            print(b"\n");
+            print(rt, b" waits on")?;
+            print_word(rt, id_at(flows, records, place as usize))?;
+            print(rt, b"\n")
         }
     }
 }
 
 // The front of a line: SLOT slot FLOW id
-fn print_flow(slot: Slot, id: u16) {
-    print(b"SLOT");
-    print_next(slot.0 as u64);
-    print(b" FLOW");
-    print_word(id);
+fn print_flow(rt: &impl Print, slot: Slot, id: u16) -> io::Result<()> {
+    print(rt, b"SLOT")?;
+    print_next(rt, slot.0 as u64)?;
+    print(rt, b" FLOW")?;
+    print_word(rt, id)
 }
 
 // A line for each flow.
-fn tell_slot(book: &[u8], flows: usize, records: &[u8], area: &[u8], slot: Slot)
+fn tell_slot(
+    rt: &impl Print,
+    book: &[u8],
+    flows: usize,
+    records: &[u8],
+    area: &[u8],
+    slot: Slot,
+) -> io::Result<()>
     requires { record_bytes * flows ≤ length records.now }
 {
     let mut i = 0;
     while i < flows {
-        print_flow(slot, id_at(flows, records, i));
-        print_told(flows, records, why(book, area, i));
+        print_flow(rt, slot, id_at(flows, records, i))?;
+        print_told(rt, flows, records, why(book, area, i))?;
         i += 1;
     }
+    Ok(())
 }
 
 // A run that has been started, slot by slot.
-fn tell_run(book: &[u8], flows: usize, records: &[u8], started: [u8; Run::AREA_BYTES], slots: u32)
+fn tell_run(
+    rt: &impl Print,
+    book: &[u8],
+    flows: usize,
+    records: &[u8],
+    started: [u8; Run::AREA_BYTES],
+    slots: u32,
+) -> io::Result<()>
     requires { record_bytes * flows ≤ length records.now }
 {
     let mut area = started;
     let mut grants = [0u8; Flow::MOST * Grant::BYTES];
     let mut slot = Slot(0);
     while slot.0 < slots {
-        tell_slot(book, flows, records, &area, slot);
+        tell_slot(rt, book, flows, records, &area, slot)?;
         let answer = advance(book, &mut area, &mut grants);
         if answer.code != 0 {
-            print_refusal(answer);
-            return;
+            return print_refusal(rt, answer);
         }
         slot = Slot(slot.0 + 1);
     }
+    Ok(())
 }
 
 // A book is refused as a whole, before anything else is printed.
-pub(crate) fn tell(book: &[u8], slots: u32) {
+pub(crate) fn tell(rt: &impl Print, book: &[u8], slots: u32) -> io::Result<()> {
     let opened = open_book(book);
     let answer = opened.answer;
     if answer.code != 0 {
-        print_refusal(answer);
-        return;
+        return print_refusal(rt, answer);
     }
     let mut area = [0u8; Run::AREA_BYTES];
     let started = start(book, &mut area);
     if started.code != 0 {
-        print_refusal(started);
-        return;
+        return print_refusal(rt, started);
     }
     let f = opened.frame;
-    print_book(f.nodes, f.flows);
-    tell_run(book, f.flows, records_of(book, f), area, slots);
+    print_book(rt, f.nodes, f.flows)?;
+    tell_run(rt, book, f.flows, records_of(book, f), area, slots)
 }

@@ -1,5 +1,9 @@
 // The arguments of the program, and what they ask.
+ghost use Rattle.std.specs.Prelude.{◌≤◌, length};
+
 use listing::listed::SLOTS;
+use std::env::FillError;
+use std::rt::Env;
 use trade::Clock;
 
 // What is asked; nothing that the program knows, where the arguments are others.
@@ -55,10 +59,29 @@ fn number_in(text: &[u8]) -> Number {
     Number::Slots(n as u32)
 }
 
-// The number of slots at an argument.
-fn slots_at(i: usize) -> Asked {
+// Puts an argument at the front of a buffer, and returns its length, or 0 where it is missing or longer than the buffer.
+fn arg(rt: &impl Env, i: usize, text: &mut [u8]) -> usize
+    ensures { result ≤ length text.new }
+{
+    match rt.arg(i, text) {
+        Ok(n) => n,
+        Err(_) => 0,
+    }
+}
+
+// Whether there is an argument at a place, however long.
+fn is_given(rt: &impl Env, i: usize) -> bool {
     let mut text = [0u8; LONGEST];
-    let n = os::arg(i, &mut text);
+    match rt.arg(i, &mut text) {
+        Err(FillError::NotPresent) => false,
+        _ => true,
+    }
+}
+
+// The number of slots at an argument.
+fn slots_at(rt: &impl Env, i: usize) -> Asked {
+    let mut text = [0u8; LONGEST];
+    let n = arg(rt, i, &mut text);
     match number_in(&text[..n]) {
         Number::Slots(slots) => Asked::Why(slots),
         Number::Other => Asked::Nothing,
@@ -66,15 +89,17 @@ fn slots_at(i: usize) -> Asked {
 }
 
 // The word, and a number behind it or none. The program's own name counts among the arguments.
-pub(crate) fn question() -> Asked {
+pub(crate) fn question(rt: &impl Env) -> Asked {
     let mut text = [0u8; LONGEST];
-    let n = os::arg(1, &mut text);
+    let n = arg(rt, 1, &mut text);
     if !is_same(&text[..n], b"why") {
         return Asked::Nothing;
     }
-    match os::arg_count() {
-        2 => Asked::Why(SLOTS),
-        3 => slots_at(2),
-        _ => Asked::Nothing,
+    if !is_given(rt, 2) {
+        return Asked::Why(SLOTS);
     }
+    if !is_given(rt, 3) {
+        return slots_at(rt, 2);
+    }
+    Asked::Nothing
 }

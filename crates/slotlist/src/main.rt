@@ -1,10 +1,11 @@
 // Lists the book on standard input.
 #![tactic(auto)]
-use libc::STDIN_FILENO;
+use listing::input::read_full;
+use std::io;
 
 // Only the bytes that fill the buffer count.
-fn main() {
-    let mut buffer = io::buffer();
-    let n = io::read_full(STDIN_FILENO, &mut buffer);
-    listing::listed::list(&buffer[..n]);
+fn main(rt: HostRuntime) -> io::Result<()> {
+    let mut buffer = [0u8; 4096];
+    let n = read_full(&mut rt.reader(), &mut buffer)?;
+    listing::listed::list(&rt, &buffer[..n])
 }

@@ -16,7 +16,7 @@ const AREA: usize = Run::AREA_BYTES + 2;
 
 const GRANTS: usize = 2 * Grant::BYTES;
 
-#[derive(Drop)]
+#[derive(Clone, Copy)]
 pub(crate) struct Desk {
     // The book stands at the end of the room.
     pub room: [u8; ROOM],

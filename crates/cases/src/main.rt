@@ -1,5 +1,6 @@
 // Cases of the rules over the proved calls.
 #![tactic(auto)]
+
 mod books;
 mod desk;
 mod orders;

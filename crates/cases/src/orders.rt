@@ -1,5 +1,5 @@
 // A word of a case with its numbers, taken in byte by byte.
-#[derive(Drop)]
+#[derive(Clone, Copy)]
 pub(crate) struct Order {
     // The first letter of the word, 0 where it has none.
     pub word: u8,

@@ -4,6 +4,7 @@
 //
 // Any other arguments get a line that says how the program is used.
 #![tactic(auto)]
+
 mod reasons;
 mod words;
 

@@ -1,9 +1,12 @@
 // What a request hands over, taken from standard input. Where the input ends too soon, `came` is false.
+ghost use Rattle.std.specs.Prelude.{IfOk};
 ghost use Rattle.io.specs.Counts.{IsPrefixLen};
 
-use libc::STDIN_FILENO;
+use listing::input::read_full;
 use numbers::numbers::{WORDS, long_at, word_at};
 use sections::records::record_at;
+use std::io;
+use std::io::Read;
 use table::table::Table;
 use trade::{Flow, Node, Plan};
 
@@ -33,52 +36,52 @@ pub(crate) struct Part {
 }
 
 // Whether the next bytes fill all of a part.
-fn fills(part: &mut [u8]) -> bool {
-    let n = io::read_full(STDIN_FILENO, part);
-    n == part.len()
+fn fills(reader: &mut impl Read, part: &mut [u8]) -> io::Result<bool> {
+    let n = read_full(reader, part)?;
+    Ok(n == part.len())
 }
 
 // The call, 0 at the end of the input.
-pub(crate) fn next_call() -> u8 {
+pub(crate) fn next_call(reader: &mut impl Read) -> io::Result<u8> {
     let mut call = [0u8; 1];
-    if !fills(&mut call) {
-        return 0;
+    if !fills(reader, &mut call)? {
+        return Ok(0);
     }
-    call[0]
+    Ok(call[0])
 }
 
 // A slice or a buffer, put at the front of a room that takes the longest.
-pub(crate) fn next_part(room: &mut [u8]) -> Part
-    ensures { IsPrefixLen result.len room.new }
+pub(crate) fn next_part(reader: &mut impl Read, room: &mut [u8]) -> io::Result<Part>
+    ensures { IfOk result (λ part. IsPrefixLen part.len room.new) }
 {
     let mut word = [0u8; 2];
-    let said = fills(&mut word);
+    let said = fills(reader, &mut word)?;
     let len = word_at(&word, 0) as usize;
     if room.len() < len {
-        return Part {
+        return Ok(Part {
             came: false,
             len: 0,
-        };
+        });
     }
-    let filled = fills(&mut room[..len]);
-    Part {
+    let filled = fills(reader, &mut room[..len])?;
+    Ok(Part {
         came: said & filled,
         len,
-    }
+    })
 }
 
-pub(crate) fn next_table() -> Handed {
+pub(crate) fn next_table(reader: &mut impl Read) -> io::Result<Handed> {
     let mut counts = [0u8; 2];
     let mut rows = [0u8; Node::MOST * Node::ROW_BYTES];
     let mut records = [0u8; Flow::MOST * Flow::RECORD_BYTES];
     let mut steps = [0u8; Flow::MOST * Plan::MOST * Plan::STEP_BYTES];
     let mut figures = [0u8; Flow::MOST * Flow::MOST];
-    let came = fills(&mut counts)
-        & fills(&mut rows)
-        & fills(&mut records)
-        & fills(&mut steps)
-        & fills(&mut figures);
-    Handed {
+    let came = fills(reader, &mut counts)?
+        & fills(reader, &mut rows)?
+        & fills(reader, &mut records)?
+        & fills(reader, &mut steps)?
+        & fills(reader, &mut figures)?;
+    Ok(Handed {
         came,
         table: Table {
             nodes: counts[0],
@@ -88,28 +91,28 @@ pub(crate) fn next_table() -> Handed {
             steps,
             figures,
         },
-    }
+    })
 }
 
-pub(crate) fn next_place() -> Place {
+pub(crate) fn next_place(reader: &mut impl Read) -> io::Result<Place> {
     let mut place = [0u8; 8];
-    let came = fills(&mut place);
+    let came = fills(reader, &mut place)?;
     let high = long_at(&place, 0) as usize;
     let low = long_at(&place, 4) as usize;
     let words = WORDS as usize;
-    Place {
+    Ok(Place {
         came,
         at: high * words * words + low,
-    }
+    })
 }
 
-pub(crate) fn next_newcomer() -> Newcomer {
+pub(crate) fn next_newcomer(reader: &mut impl Read) -> io::Result<Newcomer> {
     let mut record = [0u8; Flow::RECORD_BYTES];
     let mut plan = [0u8; Plan::MOST * Plan::STEP_BYTES];
-    let came = fills(&mut record) & fills(&mut plan);
-    Newcomer {
+    let came = fills(reader, &mut record)? & fills(reader, &mut plan)?;
+    Ok(Newcomer {
         came,
         flow: record_at(&record, 0),
         plan,
-    }
+    })
 }

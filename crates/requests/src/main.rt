@@ -16,11 +16,14 @@
 // of write, the whole buffer; of check, of a slice or a table, the bounds of all flow places in two bytes each. The program ends at any
 // other call, at a request that is cut short, which gets no answer, or after the most requests of a run.
 #![tactic(auto)]
+
 mod input;
 mod output;
 
 use bounds::acceptance::check;
 use changes::change::{add, remove};
+use std::io;
+use std::io::Read;
 use table::checked::check_table;
 use table::table::read;
 use table::written::write;
@@ -28,96 +31,98 @@ use table::written::write;
 // So many requests are answered in a run.
 const MOST: u64 = 1_000_000;
 
-fn answer_read(room: &mut [u8]) -> bool {
-    let slice = input::next_part(room);
+fn answer_read(rt: &impl Print, reader: &mut impl Read, room: &mut [u8]) -> io::Result<bool> {
+    let slice = input::next_part(reader, room)?;
     if !slice.came {
-        return false;
+        return Ok(false);
     }
     let len = slice.len;
     let got = read(&room[..len]);
-    output::put_answer(got.answer);
-    output::put_table(got.table);
-    true
+    output::put_answer(rt, got.answer)?;
+    output::put_table(rt, got.table)?;
+    Ok(true)
 }
 
-fn answer_write(room: &mut [u8]) -> bool {
-    let handed = input::next_table();
-    let buffer = input::next_part(room);
+fn answer_write(rt: &impl Print, reader: &mut impl Read, room: &mut [u8]) -> io::Result<bool> {
+    let handed = input::next_table(reader)?;
+    let buffer = input::next_part(reader, room)?;
     if !(handed.came & buffer.came) {
-        return false;
+        return Ok(false);
     }
     let len = buffer.len;
     let answer = write(handed.table, &mut room[..len]);
-    output::put_answer(answer);
-    output::put(&room[..len]);
-    true
+    output::put_answer(rt, answer)?;
+    output::put(rt, &room[..len])?;
+    Ok(true)
 }
 
-fn answer_add() -> bool {
-    let handed = input::next_table();
-    let place = input::next_place();
-    let newcomer = input::next_newcomer();
+fn answer_add(rt: &impl Print, reader: &mut impl Read) -> io::Result<bool> {
+    let handed = input::next_table(reader)?;
+    let place = input::next_place(reader)?;
+    let newcomer = input::next_newcomer(reader)?;
     if !(handed.came & place.came & newcomer.came) {
-        return false;
+        return Ok(false);
     }
     let plan = newcomer.plan;
     let changed = add(handed.table, place.at, newcomer.flow, plan);
-    output::put_answer(changed.answer);
-    output::put_table(changed.table);
-    true
+    output::put_answer(rt, changed.answer)?;
+    output::put_table(rt, changed.table)?;
+    Ok(true)
 }
 
-fn answer_remove() -> bool {
-    let handed = input::next_table();
-    let place = input::next_place();
+fn answer_remove(rt: &impl Print, reader: &mut impl Read) -> io::Result<bool> {
+    let handed = input::next_table(reader)?;
+    let place = input::next_place(reader)?;
     if !(handed.came & place.came) {
-        return false;
+        return Ok(false);
     }
     let changed = remove(handed.table, place.at);
-    output::put_answer(changed.answer);
-    output::put_table(changed.table);
-    true
+    output::put_answer(rt, changed.answer)?;
+    output::put_table(rt, changed.table)?;
+    Ok(true)
 }
 
-fn answer_check(room: &mut [u8]) -> bool {
-    let slice = input::next_part(room);
+fn answer_check(rt: &impl Print, reader: &mut impl Read, room: &mut [u8]) -> io::Result<bool> {
+    let slice = input::next_part(reader, room)?;
     if !slice.came {
-        return false;
+        return Ok(false);
     }
     let len = slice.len;
-    output::put_checked(check(&room[..len]));
-    true
+    output::put_checked(rt, check(&room[..len]))?;
+    Ok(true)
 }
 
-fn answer_check_table() -> bool {
-    let handed = input::next_table();
+fn answer_check_table(rt: &impl Print, reader: &mut impl Read) -> io::Result<bool> {
+    let handed = input::next_table(reader)?;
     if !handed.came {
-        return false;
+        return Ok(false);
     }
-    output::put_checked(check_table(handed.table));
-    true
+    output::put_checked(rt, check_table(handed.table))?;
+    Ok(true)
 }
 
 // Whether the next request came whole, and is answered.
-fn answer_next(room: &mut [u8]) -> bool {
-    match input::next_call() {
-        1 => answer_read(room),
-        2 => answer_write(room),
-        3 => answer_add(),
-        4 => answer_remove(),
-        5 => answer_check(room),
-        6 => answer_check_table(),
-        _ => false,
+fn answer_next(rt: &impl Print, reader: &mut impl Read, room: &mut [u8]) -> io::Result<bool> {
+    match input::next_call(reader)? {
+        1 => answer_read(rt, reader, room),
+        2 => answer_write(rt, reader, room),
+        3 => answer_add(rt, reader),
+        4 => answer_remove(rt, reader),
+        5 => answer_check(rt, reader, room),
+        6 => answer_check_table(rt, reader),
+        _ => Ok(false),
     }
 }
 
-fn main() {
-    let mut room = io::large_buffer();
+fn main(rt: HostRuntime) -> io::Result<()> {
+    let mut reader = rt.reader();
+    let mut room = [0u8; 65536];
     let mut i = 0;
     while i < MOST {
-        if !answer_next(&mut room) {
-            return;
+        if !answer_next(&rt, &mut reader, &mut room)? {
+            return Ok(());
         }
         i += 1;
     }
+    Ok(())
 }

@@ -1,5 +1,6 @@
 // Lists the book on standard input.
 #![tactic(auto)]
+
 use listing::input::read_full;
 use std::io;
 

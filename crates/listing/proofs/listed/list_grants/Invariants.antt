@@ -1,0 +1,10 @@
+-- `listing::listed::list_grants` is safe and ends: the flow places that are left grow fewer. Assumes nothing.
+use Prim.Native.Nat.{◌≤◌, ◌-◌}
+use Rattle.trade.specs.Limits.{most_flows}
+use Rattle.listing.proofs.listed.list_grants.Given as goal
+
+abbrev pub invariant-loop-i : goal.invariant-loop-i
+invariant-loop-i g l = l.i ≤ most_flows
+
+abbrev pub decreases-loop-i : goal.decreases-loop-i
+decreases-loop-i g l = most_flows - l.i

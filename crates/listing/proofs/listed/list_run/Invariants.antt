@@ -1,4 +1,4 @@
--- `listing::listed::list_run` is safe and ends: the slots that are left grow fewer, and both buffers keep their lengths. Assumes nothing.
+-- `listing::listed::list_run` is safe and ends: the slots that are left grow fewer, and both arrays keep their lengths. Assumes nothing.
 use Prim.Native.Nat.{◌≤◌, ◌-◌, ◌*◌}
 use mathlib.Core.Path.{◌≡◌}
 use lib.ListN.{length}

@@ -1,0 +1,11 @@
+-- `requests::main` is safe and ends: the requests that are left grow fewer, and the room keeps its length. Assumes nothing.
+use Prim.Native.Nat.{◌≤◌, ◌-◌}
+use mathlib.Core.Path.{◌≡◌}
+use lib.ListN.{length}
+use Rattle.requests.proofs.main.Given as goal
+
+abbrev pub invariant-loop-reader : goal.invariant-loop-reader
+invariant-loop-reader l = (l.i ≤ 1000000) × (length l.room ≡ 65536)
+
+abbrev pub decreases-loop-reader : goal.decreases-loop-reader
+decreases-loop-reader l = 1000000 - l.i

@@ -3,8 +3,8 @@ use Prim.Native.Nat.{◌≤◌, ◌-◌}
 use lib.ListN.{length}
 use Rattle.cases.proofs.run_words.Given as goal
 
-abbrev pub invariant-loop-desk : goal.invariant-loop-desk
-invariant-loop-desk g l = l.i ≤ length l.words
+abbrev pub invariant-loop-i : goal.invariant-loop-i
+invariant-loop-i g l = l.i ≤ length l.words
 
-abbrev pub decreases-loop-desk : goal.decreases-loop-desk
-decreases-loop-desk g l = length l.words - l.i
+abbrev pub decreases-loop-i : goal.decreases-loop-i
+decreases-loop-i g l = length l.words - l.i

@@ -4,8 +4,8 @@ use mathlib.Core.Path.{◌≡◌}
 use lib.ListN.{length}
 use Rattle.requests.proofs.main.Given as goal
 
-abbrev pub invariant-loop-reader : goal.invariant-loop-reader
-invariant-loop-reader l = (l.i ≤ 1000000) × (length l.room ≡ 65536)
+abbrev pub invariant-loop-i : goal.invariant-loop-i
+invariant-loop-i l = (l.i ≤ 1000000) × (length l.room ≡ 65536)
 
-abbrev pub decreases-loop-reader : goal.decreases-loop-reader
-decreases-loop-reader l = 1000000 - l.i
+abbrev pub decreases-loop-i : goal.decreases-loop-i
+decreases-loop-i l = 1000000 - l.i

@@ -3,8 +3,8 @@ use Prim.Native.Nat.{◌≤◌, ◌-◌}
 use Rattle.trade.specs.Limits.{most_flows}
 use Rattle.cases.proofs.books.largest.Given as goal
 
-abbrev pub invariant-loop-table : goal.invariant-loop-table
-invariant-loop-table l = l.i ≤ most_flows
+abbrev pub invariant-loop-i : goal.invariant-loop-i
+invariant-loop-i l = l.i ≤ most_flows
 
-abbrev pub decreases-loop-table : goal.decreases-loop-table
-decreases-loop-table l = most_flows - l.i
+abbrev pub decreases-loop-i : goal.decreases-loop-i
+decreases-loop-i l = most_flows - l.i

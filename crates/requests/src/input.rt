@@ -1,6 +1,5 @@
 // What a request hands over, taken from standard input. Where the input ends too soon, `came` is false.
-ghost use Rattle.std.specs.Prelude.{IfOk};
-ghost use Rattle.io.specs.Counts.{IsPrefixLen};
+ghost use Rattle.std.specs.Prelude.{◌≤◌, length, IfOk};
 
 use listing::input::read_full;
 use numbers::numbers::{WORDS, long_at, word_at};
@@ -52,7 +51,7 @@ pub(crate) fn next_call(reader: &mut impl Read) -> io::Result<u8> {
 
 // A slice or a buffer, put at the front of a room that takes the longest.
 pub(crate) fn next_part(reader: &mut impl Read, room: &mut [u8]) -> io::Result<Part>
-    ensures { IfOk result (λ part. IsPrefixLen part.len room.new) }
+    ensures { IfOk result (λ part. part.len ≤ length room.new) }
 {
     let mut word = [0u8; 2];
     let said = fills(reader, &mut word)?;

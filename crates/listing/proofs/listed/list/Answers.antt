@@ -1,6 +1,6 @@
 -- `listing::listed::list` is safe and ends: a book that opens has its parts where they were found, and no more flows than there are bounds.
 -- Assumes nothing.
-use Rattle.book.proofs.OpenBookLaws.{OpenBook, open_book}
+use Rattle.book.proofs.OpenBookLaws.{open_book}
 use Rattle.listing.proofs.listed.list.Goals as goal
 
 pub records_of-requires : goal.records_of-requires

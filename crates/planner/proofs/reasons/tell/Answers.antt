@@ -1,5 +1,5 @@
 -- `planner::reasons::tell` is safe and ends: a book that opens has its parts where they were found. Assumes nothing.
-use Rattle.book.proofs.OpenBookLaws.{OpenBook, open_book}
+use Rattle.book.proofs.OpenBookLaws.{open_book}
 use Rattle.planner.proofs.reasons.tell.Goals as goal
 
 pub records_of-requires : goal.records_of-requires

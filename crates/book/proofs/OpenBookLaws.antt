@@ -6,7 +6,7 @@ use mathlib.Core.List.{List}
 use native.Mathlib.Omega.{arith}
 use lib.ListN.{length}
 use borrow.Author.Tests.{eq-eqb}
-use Rattle.trade.specs.Layout.{trailer, sections_of}
+use Rattle.trade.specs.Layout.{sections_of}
 use Rattle.trade.specs.Facts.{facts_of, said}
 use Rattle.trade.specs.Table.{rows_room, records_room, steps_room}
 use Rattle.trade.specs.Answers.{is_done, no_number}

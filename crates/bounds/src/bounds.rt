@@ -14,7 +14,7 @@ use sections::records::record_at;
 use trade::{Answer, Flow, Node};
 
 // An answer, and the bounds of the flows with zeros elsewhere; refused, all zeros.
-#[derive(Drop)]
+#[derive(Clone, Copy)]
 pub struct Checked {
     pub answer: Answer,
     pub bounds: [u16; Flow::MOST],

@@ -10,7 +10,7 @@ use table::table::Table;
 use trade::{Answer, Flow, Plan};
 
 // What a change answers, and the table after it.
-#[derive(Drop)]
+#[derive(Clone, Copy)]
 pub struct Changed {
     pub answer: Answer,
     pub table: Table,

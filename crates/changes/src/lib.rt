@@ -1,5 +1,6 @@
 // Changes of a table: a flow added at a place, or removed.
 #![tactic(auto)]
+
 pub mod change;
 mod entering;
 mod leaving;

@@ -19,11 +19,9 @@ use Rattle.cut.specs.Turned.{turned}
 
 -- A LIST IN PARTS: what stands before a place, up to a second, up to a third, and behind it
 length_part : (from to : ℕ) (l : List ℕ) → to ≤ length l → length (slice from to l) ≡ to - from
-
 length_part from to l h = length-slice from to l h
 
 two_parts : (from to : ℕ) (l : List ℕ) → from ≤ to → take to l ≡ take from l ++ slice from to l
-
 two_parts from to l h = sym (take-append-drop from (take to l)) ∙ ap (λ (a : List ℕ). a ++ drop from (take to l)) (take-take from to l h)
 
 in_parts :
@@ -45,7 +43,6 @@ flipped_part :
     → length a ≡ from
     → from + length p ≡ to
     → flipped from to (a ++ (p ++ r)) ≡ a ++ (reverse p ++ r)
-
 flipped_part from to a p r e f =
     let both : length (a ++ p) ≡ to = length-append a p ∙ ap (λ (n : ℕ). n + length p) e ∙ f in
     rw (

@@ -1,4 +1,5 @@
 // Numbers in the bytes of a slice, and bytes put into a buffer.
 #![tactic(auto)]
+
 pub mod numbers;
 pub mod pasting;

@@ -21,7 +21,6 @@ use Rattle.trade.specs.Calls.{Advancing, book_rules, flows_granted, advance_answ
 use Rattle.trade.specs.Why.{blocks, why, answer_of, Asking, asked_due, ask_answer, ask_of}
 use Rattle.trade.specs.declared.answer.Answer.{Answer}
 use Rattle.trade.specs.declared.told.Told.{Told}
-use Rattle.trade.specs.declared.told.Told.TheVariants as Told
 use Rattle.trade.proofs.Answers.{done_first, refused_second, Passed, passed_head, passed_tail, passed_first, passed_others, passed_look, first_of_passed, first_of_last, first_of_number, first_of_without, first_of_on, given_passed, given_passes}
 use Rattle.trade.proofs.Calls.{code13_passes}
 use Rattle.trade.proofs.Valid.{Valid, book_valid}

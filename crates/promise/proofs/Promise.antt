@@ -27,7 +27,6 @@ use Rattle.response.proofs.Granted.{granted_below, granted_unfinished, granted_o
 use Rattle.response.proofs.Released.{released_late, release_comes, released_apart, instance_released, instance_within, periodic_in_order}
 use Rattle.response.proofs.Due.{granted_in_one_slot, granted_due}
 use Rattle.response.proofs.Promise.{kept}
-use Rattle.response.proofs.Waiting.{bound_positive}
 use Rattle.promise.specs.Demands.{Program, Ran, RunBy, HasRun, planner_by, planner, grant_at, grant, step_grant, Counted, Granted, release_of, last_slot, reported, Kept, Due, Honoured, Demand3}
 use Rattle.promise.specs.Promise.{Meets}
 use Rattle.promise.proofs.Grants.{slot_grant}

@@ -1,9 +1,9 @@
 -- Taking a flow out never hurts: of the program that the definitions describe, and so of every program that meets its contracts. Leans on the trade's
 -- Removed and Prefix. Assumes nothing.
-use Prim.Native.Nat.{ℕ, suc, ◌+◌, ◌-◌, ◌*◌, ◌≤◌, ◌<◌}
-use mathlib.Core.Path.{◌≡◌, refl, sym, ◌∙◌, ap, subst}
+use Prim.Native.Nat.{ℕ, ◌+◌, ◌-◌, ◌*◌, ◌≤◌, ◌<◌}
+use mathlib.Core.Path.{◌≡◌, refl, sym, ◌∙◌, ap}
 use mathlib.Core.Bool.{Bool}
-use mathlib.Core.List.{List, [], ◌∷◌, ◌++◌, append_assoc}
+use mathlib.Core.List.{List, ◌++◌, append_assoc}
 use native.Mathlib.Omega.{arith}
 use lib.ListN.{length, get_or, take, drop, length-append, get_or-append}
 use lib.Seq.{get_or-append-add, take-append_seam}
@@ -12,16 +12,15 @@ use Rattle.trade.specs.Bytes.{over}
 use Rattle.trade.specs.Layout.{Sections}
 use Rattle.trade.specs.Facts.{Facts, facts_of, said}
 use Rattle.trade.specs.Table.{InMemory, used, book_of, table_of}
-use Rattle.trade.specs.Kept.{Tabled, RightFigures, figure_in, figures_of, kept_of, kept_measure}
+use Rattle.trade.specs.Kept.{Tabled, RightFigures, kept_of, kept_measure}
 use Rattle.trade.specs.Answers.{done}
 use Rattle.trade.specs.Bound.{measure, bound_by, code9, code9_by}
 use Rattle.trade.specs.Exchange.{before_out}
-use Rattle.trade.specs.Slot.{Rule, unfinished, going, greedy, granted_by, among, grant_of, grants_of}
+use Rattle.trade.specs.Slot.{Rule, unfinished, going, greedy, granted_by, grant_of, grants_of}
 use Rattle.trade.specs.Calls.{Checked, Removing, Changed, Advanced, table_rules, without_flow, remove_answer, remove_of, bounds_of, check_of, check_kept_of}
 use Rattle.trade.specs.declared.answer.Answer.{Answer}
 use Rattle.trade.specs.declared.clock.Slot.{Slot}
 use Rattle.trade.specs.declared.state.Grant.{Grant}
-use Rattle.trade.proofs.First.{lt_or_ge}
 use Rattle.trade.proofs.Bound.{bound_admissible, boundless_false}
 use Rattle.trade.proofs.Answers.{done_first, Passed, given_first_passed}
 use Rattle.trade.proofs.Order.{among_at}
@@ -29,7 +28,7 @@ use Rattle.trade.proofs.Valid.{table_valid}
 use Rattle.trade.proofs.Alike.{Alike}
 use Rattle.trade.proofs.Places.{alike_passed, alike_code9, alike_bounds}
 use Rattle.trade.proofs.Used.{Holds, used_same, table_same, table_facts, table_table, roomy, in_memory_holds, table_in_memory}
-use Rattle.trade.proofs.RoundTrip.{nine_by, book_said, kept_right, kept_then_check, write_then_check}
+use Rattle.trade.proofs.RoundTrip.{book_said, kept_right, kept_then_check, write_then_check}
 use Rattle.trade.proofs.Kept.{figures_at}
 use Rattle.trade.proofs.SlotLaws.{going_below, grants_append, length_grants}
 use Rattle.trade.proofs.Prefix.{greedy_local, Behind, going_behind, prefix_runs}
@@ -42,7 +41,7 @@ use Rattle.promise.specs.Removal.{MayGo, GrantOf, SameAbove, Unhurt, NeverHurts}
 use Rattle.promise.proofs.Accepted.{listed_bound, code9_exactly, kept_formed}
 use Rattle.promise.proofs.Grants.{length_grant}
 use Rattle.promise.proofs.Sound.{greedy_sound}
-use Rattle.promise.proofs.Slots.{AcceptedRun, facts, due, run, goes, made, at, in_slot}
+use Rattle.promise.proofs.Slots.{AcceptedRun, facts, due, run, goes, in_slot}
 use Rattle.promise.proofs.Promise.{grant_is, runs_clock, by_planner}
 
 -- 1 AND 2, of the definitions

@@ -10,7 +10,7 @@ use lib.Dec.{eqb, ltb}
 use lib.ListN.{length}
 use borrow.Author.Tests.{eq-eqb, ne_eqb, lt-ltb, le-ltb}
 use Rattle.trade.specs.Limits.{most_flows, end_of_clock, area_bytes, grant_bytes}
-use Rattle.trade.specs.Bytes.{long, over}
+use Rattle.trade.specs.Bytes.{over}
 use Rattle.trade.specs.Facts.{Facts, said}
 use Rattle.trade.specs.Answers.{done, refused, is_done, first_of, no_number, on}
 use Rattle.trade.specs.Codes.{code13}

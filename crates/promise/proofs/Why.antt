@@ -7,7 +7,6 @@ use mathlib.Core.Logic.{◌↔◌}
 use native.Mathlib.Omega.{arith}
 use lib.ListN.{length, get_or}
 use borrow.Author.Tests.{le-leb, lt-leb}
-use Rattle.trade.specs.First.{first}
 use Rattle.trade.specs.Bytes.{over}
 use Rattle.trade.specs.Conflict.{conflict}
 use Rattle.trade.specs.Answers.{done, refused}
@@ -19,7 +18,6 @@ use Rattle.trade.specs.declared.answer.Answer.{Answer}
 use Rattle.trade.specs.declared.state.Grant.{Grant}
 use Rattle.trade.specs.declared.node.Transmission.{Transmission}
 use Rattle.trade.specs.declared.told.Told.{Told}
-use Rattle.trade.specs.declared.told.Told.TheVariants as Told
 use Rattle.trade.proofs.First.{not_both, and_true, first_before, first_holds, first_unique}
 use Rattle.trade.proofs.Order.{among_at, place_of}
 use Rattle.trade.proofs.Answers.{given_true, given_false}

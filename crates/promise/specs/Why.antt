@@ -12,7 +12,6 @@ use Rattle.trade.specs.Why.{answer_of, Asking, asked_due, ask_answer, ask_of}
 use Rattle.trade.specs.declared.answer.Answer.{Answer}
 use Rattle.trade.specs.declared.state.Grant.{Grant}
 use Rattle.trade.specs.declared.told.Told.{Told}
-use Rattle.trade.specs.declared.told.Told.TheVariants as Told
 use Rattle.promise.specs.Demands.{Done, Refused, Always, grant_at, step_grant}
 
 -- the call that the definitions describe

@@ -1,5 +1,6 @@
 // The three sections that a book and a table both have: rows, records and steps; codes 5, 6 and 8.
 #![tactic(auto)]
+
 mod at_once;
 pub mod records;
 pub mod rows;

@@ -9,7 +9,7 @@ use sections::records::record_at;
 use trade::{Flow, Grant, Progress, Run, Slot, Step, Transmission};
 
 // What a slot leaves: the run as it goes on, and the count of grants.
-#[derive(Drop)]
+#[derive(Clone, Copy)]
 pub struct Outcome {
     pub run: Run,
     pub count: usize,

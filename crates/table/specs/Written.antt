@@ -1,5 +1,5 @@
 -- The trailer of a book, and the room that a table's book needs. Leans on the trade's table.
-use Rattle.std.specs.Prelude.{ℕ, ◌+◌, ◌*◌, ◌≤◌, ◌≡◌, List, [], ◌∷◌, ◌++◌, length}
+use Rattle.std.specs.Prelude.{ℕ, ◌*◌, ◌≤◌, ◌≡◌, List, [], ◌∷◌, ◌++◌, length}
 use Rattle.trade.specs.Limits.{most_nodes, most_flows, most_steps, row_bytes, record_bytes, step_bytes, mark}
 use Rattle.trade.specs.Bytes.{two_bytes}
 use Rattle.trade.specs.Layout.{Sections}

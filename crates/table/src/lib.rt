@@ -1,5 +1,6 @@
 // The table in memory: reading a book into it, checking it, and writing it as a book.
 #![tactic(auto)]
+
 pub mod checked;
 pub mod table;
 pub mod written;

@@ -16,7 +16,7 @@ use sections::steps::steps_answer;
 use square::kept::keep;
 use trade::{Answer, Flow, Node, Plan};
 
-#[derive(Drop)]
+#[derive(Clone, Copy)]
 pub struct Table {
     pub nodes: u8,
     pub flows: u8,
@@ -27,7 +27,7 @@ pub struct Table {
 }
 
 // What reading a book answers, and the table that it holds.
-#[derive(Drop)]
+#[derive(Clone, Copy)]
 pub struct Got {
     pub answer: Answer,
     pub table: Table,

@@ -1,5 +1,6 @@
 // The words of the trade, and the figures that bound them.
 #![tactic(auto)]
+
 pub mod answer;
 pub mod clock;
 pub mod flow;

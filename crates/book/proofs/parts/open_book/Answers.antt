@@ -12,7 +12,6 @@ use Rattle.book.specs.Frame.{trailer_in, trailer_answer, frame_by, no_frame, Lie
 use Rattle.book.specs.declared.parts.Trailer.{Trailer}
 use Rattle.numbers.proofs.NumbersLaws.{part_tail}
 use Rattle.book.proofs.PartsLaws.{opened_refused, opened_done, too_short, trailer_refused, trailer_passed, in_order, lies}
-use borrow.Author.Rules.{rules}
 use Rattle.book.proofs.parts.open_book.Goals as goal
 use Rattle.book.proofs.parts.open_book.Goals.{After-frame_by-frame, After-trailer_answer-marked, After-trailer_of-t, Else-marked-ne0}
 

@@ -1,6 +1,5 @@
 -- `book::parts::records_of` meets its contract: the part from its start to the next one's is the section. Assumes nothing.
 use Rattle.book.proofs.PartsLaws.{records_lie}
-use borrow.Author.Rules.{rules}
 use Rattle.book.proofs.parts.records_of.Goals as goal
 
 pub returns : goal.returns

@@ -15,7 +15,6 @@ use Rattle.trade.specs.declared.answer.Answer.{Answer}
 use Rattle.trade.proofs.Answers.{first_of_refuse, first_of_pass, first_of_last, given_passes}
 use Rattle.book.specs.Frame.{section_rules}
 use Rattle.book.proofs.PartsLaws.{length_rows, length_records, code5_lies, code6_lies, code7_passes, code7_refuses, code8_lies}
-use borrow.Author.Rules.{rules}
 use Rattle.book.proofs.parts.sections_answer.Goals as goal
 use Rattle.book.proofs.parts.sections_answer.Goals.{After-records_answer-named, After-rows_answer-rows, After-steps_before, Else-named-ne0, Else-rows-ne0}
 

@@ -1,7 +1,6 @@
 -- `book::parts::trailer_answer` meets its contract: each answer stands behind the tests that led to it. Assumes nothing.
 use mathlib.Core.Path.{◌∙◌, sym}
 use Rattle.book.specs.Frame.{trailer_answer}
-use borrow.Author.Rules.{rules}
 use Rattle.book.proofs.parts.trailer_answer.Goals as goal
 
 pub returns-then-not-marked : goal.returns-then-not-marked

@@ -1,6 +1,5 @@
 -- `book::parts::trailer_of` meets its contract: each field stands at its place. Assumes nothing.
 use Rattle.book.specs.Frame.{trailer_in}
-use borrow.Author.Rules.{rules}
 use Rattle.book.proofs.parts.trailer_of.Goals as goal
 
 pub returns : goal.returns

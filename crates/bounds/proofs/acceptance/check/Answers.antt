@@ -1,5 +1,4 @@
 -- `bounds::acceptance::check` meets its contract: what reading refuses is refused, and else the bounds decide. Assumes nothing.
-use borrow.Author.Rules.{rules}
 use Prim.Native.Nat.{ℕ}
 use mathlib.Core.Path.{◌≡◌, ◌∙◌, ap}
 use mathlib.Core.List.{List}

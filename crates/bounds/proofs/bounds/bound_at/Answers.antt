@@ -1,5 +1,4 @@
 -- `bounds::bounds::bound_at` meets its contract: the three arrays say what the facts do. Assumes nothing.
-use borrow.Author.Rules.{rules}
 use Prim.Native.Nat.{ℕ, ◌<◌}
 use mathlib.Core.Path.{◌≡◌, refl, ◌∙◌, ap, ap₂}
 use mathlib.Core.List.{List}

@@ -1,5 +1,5 @@
 -- `bounds::bounds::bounds_of` meets its contract: each flow passed has its bound, which stands in the array. Assumes nothing.
-use Prim.Native.Nat.{ℕ, ◌+◌, ◌-◌, ◌≤◌, ◌<◌}
+use Prim.Native.Nat.{ℕ, ◌+◌, ◌≤◌, ◌<◌}
 use mathlib.Core.Path.{◌≡◌, refl, sym, ◌∙◌, ap}
 use mathlib.Core.List.{List}
 use lib.ListN.{get_or}
@@ -17,7 +17,7 @@ use Rattle.trade.specs.Interference.{interference}
 use Rattle.trade.proofs.Fair.{fair_carry}
 use Rattle.trade.proofs.Alike.{Alike, alike_counts, by_interference_alike, bound_prefix}
 use Rattle.sections.proofs.FormedLaws.{formed_less}
-use Rattle.bounds.proofs.BoundsLaws.{Bounding, bounding_at, bounding_range, bounding_none, bounding_more, bounded_refused, bounded_done}
+use Rattle.bounds.proofs.BoundsLaws.{bounding_at, bounding_range, bounding_none, bounding_more, bounded_refused, bounded_done}
 use Rattle.pairs.proofs.SpreadLaws.{zeros}
 use Rattle.figures.proofs.FiguresLaws.{all_heard}
 use Rattle.figures.proofs.Padded.{filled_at}
@@ -26,9 +26,9 @@ use Rattle.bounds.proofs.bounds.bounds_of.Goals.{After-bound_at-bound, After-rec
 
 pub hear_above-requires : goal.hear_above-requires
 hear_above-requires c = record {
-      formed = c.requires;
-      heard_len = (refl, λ y h. zeros 64 y);
-    }
+  formed = c.requires;
+  heard_len = (refl, λ y h. zeros 64 y);
+}
 
 pub loop-l-init : goal.loop-l-init
 loop-l-init c = (omega arith, bounding_none _ _)
@@ -49,12 +49,12 @@ bound_at-bound-requires c =
       formed = formed_less (loop.l + 1) a.flows a.rows.now records a.steps.now (omega arith) formed;
       by_index = λ h b. rw loop.invariant.1.period (filled_at most_flows (λ (k : ℕ). field records k 2) loop.l h b);
       by_index_2 = λ h b.
-              let range = formed.fields h (omega arith) in
-              bounding_range _ _ loop.l h loop.bounds loop.periods b range.len.0 (omega (arith, range.deadline.1, range.period.1)) loop.invariant.1;
+          let range = formed.fields h (omega arith) in
+          bounding_range _ _ loop.l h loop.bounds loop.periods b range.len.0 (omega (arith, range.deadline.1, range.period.1)) loop.invariant.1;
       most_nodes_in_bounds = (
-            omega (arith, c.hear_above.ensures.size),
-            all_heard a.flows loop.l a.rows.now records a.steps.now _ formed (omega arith) c.hear_above.ensures,
-          );
+        omega (arith, c.hear_above.ensures.size),
+        all_heard a.flows loop.l a.rows.now records a.steps.now _ formed (omega arith) c.hear_above.ensures,
+      );
     }
 
 -- what the record says, and that the flow's deadline and period are in range

@@ -1,26 +1,8 @@
 -- `bounds::bounds::bounds_of` meets its contract: each flow passed has its bound, which stands in the array. Assumes nothing.
-use Prim.Native.Nat.{ℕ, ◌+◌, ◌-◌, ◌≤◌, ◌<◌}
-use mathlib.Core.Path.{◌≡◌, refl, sym, ◌∙◌, ap}
-use mathlib.Core.List.{List}
-use lib.ListN.{get_or}
-use native.Mathlib.Numerals.{add-one}
-use native.Mathlib.Omega.{arith}
-use native.Mathlib.Nat.{lt_of_lt_of_le}
-use Rattle.trade.specs.Limits.{most_flows, most_period}
-use Rattle.trade.specs.Layout.{field}
-use Rattle.trade.specs.Facts.{Facts, facts_in, facts_of, flow_in}
-use Rattle.trade.specs.Bound.{by_interference, measure, bound}
-use Rattle.trade.specs.declared.answer.Answer.{Answer}
-use Rattle.trade.specs.declared.flow.Flow.{Flow}
-use Rattle.bounds.specs.Bounds.{refused_by}
-use Rattle.trade.specs.Interference.{interference}
-use Rattle.trade.proofs.Fair.{fair_carry}
-use Rattle.trade.proofs.Alike.{Alike, alike_counts, by_interference_alike, bound_prefix}
-use Rattle.sections.proofs.FormedLaws.{formed_less}
-use Rattle.bounds.proofs.BoundsLaws.{Bounding, bounding_at, bounding_range, bounding_none, bounding_more, bounded_refused, bounded_done}
-use Rattle.pairs.proofs.SpreadLaws.{zeros}
-use Rattle.figures.proofs.FiguresLaws.{all_heard}
-use Rattle.figures.proofs.Padded.{filled_at}
+use Prim.Native.Nat.{◌-◌, ◌≤◌}
+use Rattle.trade.specs.Facts.{facts_in}
+use Rattle.trade.specs.Bound.{measure}
+use Rattle.bounds.proofs.BoundsLaws.{Bounding}
 use Rattle.bounds.proofs.bounds.bounds_of.Given as goal
 
 abbrev pub invariant-loop-l : goal.invariant-loop-l

@@ -1,5 +1,4 @@
 -- `bounds::kept::bound_with` meets its contract: the three arrays say what the records, the figures and the pairs do. Assumes nothing.
-use borrow.Author.Rules.{rules}
 use Prim.Native.Nat.{ℕ, ◌<◌, ◌≤◌}
 use mathlib.Core.Path.{◌≡◌, refl, ◌∙◌, ap, ap₂}
 use mathlib.Core.List.{List, []}

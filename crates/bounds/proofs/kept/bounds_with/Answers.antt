@@ -1,5 +1,5 @@
 -- `bounds::kept::bounds_with` meets its contract: each flow passed has its bound, which stands in the array. Assumes nothing.
-use Prim.Native.Nat.{ℕ, ◌+◌, ◌-◌, ◌≤◌, ◌<◌}
+use Prim.Native.Nat.{ℕ, ◌+◌, ◌≤◌, ◌<◌}
 use mathlib.Core.Path.{◌≡◌, refl, sym, ◌∙◌, ap}
 use mathlib.Core.List.{List, []}
 use lib.ListN.{get_or}
@@ -16,7 +16,7 @@ use Rattle.bounds.specs.Bounds.{refused_by, by_costs}
 use Rattle.square.specs.Carried.{figure_with}
 use Rattle.trade.proofs.Fair.{fair_carry}
 use Rattle.trade.proofs.Alike.{alike_counts, bound_prefix}
-use Rattle.bounds.proofs.BoundsLaws.{Bounding, bounding_at, bounding_range, bounding_none, bounding_more, bounded_refused, bounded_done}
+use Rattle.bounds.proofs.BoundsLaws.{bounding_at, bounding_range, bounding_none, bounding_more, bounded_refused, bounded_done}
 use Rattle.figures.proofs.Padded.{filled_at}
 use Rattle.bounds.proofs.kept.bounds_with.Goals as goal
 use Rattle.bounds.proofs.kept.bounds_with.Goals.{After-bound_with-bound, After-record_at-flow}
@@ -44,8 +44,8 @@ bound_with-bound-requires c =
       );
       by_index = λ h b. rw loop.invariant.1.period (filled_at most_flows (λ (k : ℕ). field records k 2) loop.l h b);
       by_index_2 = λ h b.
-            let range = timed.fields h (omega arith) in
-            bounding_range _ _ loop.l h loop.bounds loop.periods b range.len.0 (omega (arith, range.deadline.1, range.period.1)) loop.invariant.1;
+          let range = timed.fields h (omega arith) in
+          bounding_range _ _ loop.l h loop.bounds loop.periods b range.len.0 (omega (arith, range.deadline.1, range.period.1)) loop.invariant.1;
     }
 
 -- what the record says, and that the flow's deadline is in range

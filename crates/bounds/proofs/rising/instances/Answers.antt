@@ -1,7 +1,6 @@
 -- `bounds::rising::instances` meets its contract. Assumes nothing.
 use Prim.Native.Nat.{◌+◌, ◌-◌}
 use mathlib.Core.Path.{refl}
-use borrow.Author.Rules.{rules}
 use native.Mathlib.Omega.{arith}
 use Rattle.trade.specs.Bound.{ceil, instances}
 use Rattle.trade.proofs.Instances.{ceil_at, instances_most}

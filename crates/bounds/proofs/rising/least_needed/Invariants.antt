@@ -1,13 +1,7 @@
 -- `bounds::rising::least_needed` meets its contract: the sum is that of the flows passed. Assumes nothing.
-use Prim.Native.Nat.{ℕ, ◌+◌, ◌-◌, ◌*◌, ◌≤◌}
-use mathlib.Core.Path.{◌≡◌, ◌∙◌, ap}
-use native.Mathlib.Nat.{add_assoc}
-use native.Mathlib.Numerals.{add-one}
-use native.Mathlib.Omega.{arith}
-use lib.ListN.{get_or}
+use Prim.Native.Nat.{◌+◌, ◌-◌, ◌*◌, ◌≤◌}
+use mathlib.Core.Path.{◌≡◌}
 use Rattle.trade.specs.Limits.{most_steps}
-use Rattle.trade.specs.First.{sum_to}
-use Rattle.trade.proofs.Sums.{sum_next}
 use Rattle.bounds.specs.Terms.{least_in}
 use Rattle.bounds.proofs.rising.least_needed.Given as goal
 

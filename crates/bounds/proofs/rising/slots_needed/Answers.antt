@@ -1,11 +1,10 @@
 -- `bounds::rising::slots_needed` meets its contract: the sum is that of the flows passed. Assumes nothing.
-use Prim.Native.Nat.{ℕ, ◌+◌, ◌-◌, ◌*◌, ◌≤◌}
+use Prim.Native.Nat.{ℕ, ◌*◌, ◌≤◌}
 use mathlib.Core.Path.{◌≡◌, ◌∙◌, ap}
 use native.Mathlib.Nat.{mul-le-mul, add_assoc}
 use native.Mathlib.Numerals.{add-one}
 use native.Mathlib.Omega.{arith}
 use lib.ListN.{get_or}
-use Rattle.trade.specs.Limits.{most_period, most_steps}
 use Rattle.trade.specs.First.{sum_to}
 use Rattle.trade.specs.Bound.{instances}
 use Rattle.trade.proofs.Sums.{sum_next}

@@ -1,11 +1,8 @@
 -- `bounds::rising::smallest` meets its contract: no r that was passed is enough. The measure is what is left up to the deadline.
 -- Assumes nothing.
-use Prim.Native.Nat.{ℕ, ◌+◌, ◌-◌, ◌≤◌}
-use mathlib.Core.Path.{sym}
-use mathlib.Core.List.{List}
-use native.Mathlib.Omega.{arith}
-use Rattle.bounds.specs.Terms.{needed_in, least_in}
-use Rattle.bounds.proofs.SmallestLaws.{NoneBelow, none_under, needed_least, none_further, found_smallest, found_none, needed_grows}
+use Prim.Native.Nat.{◌+◌, ◌-◌, ◌≤◌}
+use Rattle.bounds.specs.Terms.{needed_in}
+use Rattle.bounds.proofs.SmallestLaws.{NoneBelow}
 use Rattle.bounds.proofs.rising.smallest.Given as goal
 
 abbrev pub invariant-loop-r : goal.invariant-loop-r

@@ -20,7 +20,6 @@ use Rattle.changes.specs.Moved.{coming}
 use Rattle.cut.proofs.CutLaws.{out_again}
 use Rattle.changes.proofs.RecutLaws.{cleared}
 use Rattle.changes.proofs.EnteringLaws.{new_no_more, step_first, step_room, with_it, new_tested, new_carried}
-use borrow.Author.Rules.{rules}
 use Rattle.changes.proofs.entering.flow_in.Goals as goal
 use Rattle.changes.proofs.entering.flow_in.Goals.{After-put_in-2, After-steps_before-step_end, After-take_out, After-take_out-then-answer-ne0, After-used_answer-answer, Start}
 
@@ -69,7 +68,7 @@ used_answer-answer-requires c =
       new = transport (λ i. New (sym (is_new (goal.at.used_answer-answer-requires c).After-put_in-2) i)) (new_tested (old (goal.at.used_answer-answer-requires c).Start) c.args.place c.args.flow.now c.args.plan.now c.requires);
       end_in_bounds = omega (arith, c.put_in-2.auto.section, room (goal.at.used_answer-answer-requires c).After-steps_before-step_end);
       carried = transport (λ i. Carried (sym (is_new (goal.at.used_answer-answer-requires c).After-put_in-2) i) c.args.place c.args.figures.now)
-            (new_carried (old (goal.at.used_answer-answer-requires c).Start) c.args.place c.args.flow.now c.args.plan.now c.requires);
+          (new_carried (old (goal.at.used_answer-answer-requires c).Start) c.args.place c.args.flow.now c.args.plan.now c.requires);
     }
 
 answers : (c : After-used_answer-answer) → c.used_answer-answer.result ≡ first_of new_rules no_number (new c.before.before.before.before.before.before.before.before.before.before.before.before.before.before.before.before.before.before.before.before.before.before.before.before.before.before)

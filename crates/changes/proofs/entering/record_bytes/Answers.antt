@@ -1,6 +1,5 @@
 -- `changes::entering::record_bytes` meets its contract: five words are put one behind the other. Assumes nothing.
 use mathlib.Core.Path.{◌∙◌}
-use borrow.Author.Rules.{rules}
 use Rattle.trade.specs.Bytes.{two_bytes}
 use Rattle.trade.specs.Calls.{record_of}
 use Rattle.numbers.specs.Pasting.{pasted_at}

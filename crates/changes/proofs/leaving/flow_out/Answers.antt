@@ -11,7 +11,6 @@ use Rattle.trade.specs.Exchange.{recut}
 use Rattle.trade.specs.Calls.{leaving}
 use Rattle.changes.proofs.RecutLaws.{cleared}
 use Rattle.changes.proofs.LeavingLaws.{left_no_more, step_first, step_next, step_room, without_it, left_figures}
-use borrow.Author.Rules.{rules}
 use Rattle.changes.proofs.leaving.flow_out.Goals as goal
 use Rattle.changes.proofs.leaving.flow_out.Goals.{After-steps_before-last, Start}
 

@@ -7,7 +7,6 @@ use Rattle.trade.specs.declared.answer.Answer.{Answer}
 use Rattle.changes.specs.Moved.{Leaving}
 use Rattle.rules.proofs.RulesLaws.{leaves, gives, leave_asked}
 use Rattle.changes.proofs.LeavingLaws.{leave_goes}
-use borrow.Author.Rules.{rules}
 use Rattle.changes.proofs.leaving.leave.Goals as goal
 use Rattle.changes.proofs.leaving.leave.Goals.{After-old_answer-asked, Else-asked-ne0, Start}
 

@@ -1,10 +1,9 @@
 -- `cut::cut::clear` meets its contract: a zero is stored at each place from the first on. Assumes nothing.
-use Prim.Native.Nat.{ℕ, ◌-◌, ◌≤◌}
+use Prim.Native.Nat.{ℕ}
 use mathlib.Core.Path.{◌≡◌, ◌∙◌, ap}
 use native.Mathlib.Omega.{arith}
 use lib.ListN.{length}
 use Rattle.cut.proofs.CutLaws.{zeroed, zeroed_none, zeroed_length, zeroed_next, zeroed_all}
-use borrow.Author.Rules.{rules}
 use Rattle.cut.proofs.cut.clear.Goals as goal
 use Rattle.cut.proofs.cut.clear.Goals.{At-loop-i}
 

@@ -1,10 +1,8 @@
 -- `cut::cut::clear` meets its contract: a zero is stored at each place from the first on. Assumes nothing.
-use Prim.Native.Nat.{ℕ, ◌-◌, ◌≤◌}
-use mathlib.Core.Path.{◌≡◌, ◌∙◌, ap}
-use native.Mathlib.Omega.{arith}
+use Prim.Native.Nat.{◌-◌, ◌≤◌}
+use mathlib.Core.Path.{◌≡◌}
 use lib.ListN.{length}
-use Rattle.cut.proofs.CutLaws.{zeroed, zeroed_none, zeroed_length, zeroed_next, zeroed_all}
-use borrow.Author.Rules.{rules}
+use Rattle.cut.proofs.CutLaws.{zeroed}
 use Rattle.cut.proofs.cut.clear.Given as goal
 
 abbrev pub invariant-loop-i : goal.invariant-loop-i

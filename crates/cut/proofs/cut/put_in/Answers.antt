@@ -4,7 +4,6 @@ use mathlib.Core.Path.{◌∙◌, ap}
 use lib.ListN.{length}
 use Rattle.cut.specs.Turned.{turned}
 use Rattle.cut.proofs.CutLaws.{entered_in_turn}
-use borrow.Author.Rules.{rules}
 use Rattle.cut.proofs.cut.put_in.Goals as goal
 
 pub returns : goal.returns

@@ -8,7 +8,6 @@ use lib.Seq.{length-take-le}
 use Rattle.trade.specs.Bytes.{part}
 use Rattle.numbers.specs.Pasting.{pasted_at}
 use Rattle.cut.proofs.CutLaws.{kept_front, over_all}
-use borrow.Author.Rules.{rules}
 use Rattle.cut.proofs.cut.swap.Goals as goal
 use Rattle.cut.proofs.cut.swap.Goals.{After-put_at}
 

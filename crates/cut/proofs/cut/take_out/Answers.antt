@@ -5,7 +5,6 @@ use lib.ListN.{length}
 use Rattle.trade.specs.Bytes.{part}
 use Rattle.numbers.specs.Pasting.{pasted_at}
 use Rattle.cut.proofs.CutLaws.{left_in_turn, went_behind}
-use borrow.Author.Rules.{rules}
 use Rattle.cut.proofs.cut.take_out.Goals as goal
 
 pub returns : goal.returns

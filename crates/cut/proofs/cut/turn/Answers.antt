@@ -1,7 +1,6 @@
 -- `cut::cut::turn` meets its contract: each part is reversed, and then both together. Assumes nothing.
 use native.Mathlib.Omega.{arith}
-use Prim.Native.Nat.{ℕ, ◌-◌, ◌≤◌}
-use lib.ListN.{length}
+use Prim.Native.Nat.{◌-◌}
 use borrow.Rule.Slice.PartMut.{put_mid}
 use Rattle.cut.proofs.CutLaws.{turned_in_turn, reversed_part}
 use Rattle.cut.proofs.cut.turn.Goals as goal

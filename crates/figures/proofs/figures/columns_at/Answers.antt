@@ -1,5 +1,5 @@
 -- `figures::figures::columns_at` gathers the columns of the plan with its repeated steps once. Assumes nothing.
-use Rattle.std.proofs.Common.{◌≡◌, ℕ, ◌+◌, ◌≤◌, List, length, replicate, sym, ap, ◌∙◌, subst, arith, rules}
+use Rattle.std.proofs.Common.{◌≡◌, ℕ, ◌+◌, ◌≤◌, List, length, replicate, sym, ap, ◌∙◌, subst, arith}
 use Rattle.plans.specs.Plan.{AllWithin, steps_in, plan_in}
 use Rattle.plans.specs.Single.{singles, Singled}
 use Rattle.plans.proofs.SingleLaws.{singles_most}

@@ -1,5 +1,5 @@
 -- `figures::figures::figure_at` works the figure out in the first lane. Assumes nothing.
-use Rattle.std.proofs.Common.{◌≡◌, ℕ, ◌+◌, ◌-◌, ◌<◌, List, refl, arith, rules}
+use Rattle.std.proofs.Common.{◌≡◌, ℕ, ◌+◌, ◌-◌, ◌<◌, List, refl, arith}
 use Rattle.pairs.proofs.SpreadLaws.{zeros}
 use Rattle.sections.specs.Formed.{plan_at}
 use Rattle.figures.specs.Rises.{lane_at}
@@ -9,10 +9,10 @@ use Rattle.figures.proofs.figures.figure_at.Goals as goal
 
 pub columns_at-width-requires : goal.columns_at-width-requires
 columns_at-width-requires c = let pre = c.requires in record {
-      formed = pre.formed.0;
-      most_nodes_in_bounds = pre.most_nodes_in_bounds;
-      columns_len = (omega arith, λ x h. zeros 64 x);
-    }
+  formed = pre.formed.0;
+  most_nodes_in_bounds = pre.most_nodes_in_bounds;
+  columns_len = (omega arith, λ x h. zeros 64 x);
+}
 
 pub lay_group-laid-requires : goal.lay_group-laid-requires
 lay_group-laid-requires c =
@@ -21,10 +21,10 @@ lay_group-laid-requires c =
     let f = c.requires.formed.0 in record {
       first_lt_l = (omega arith, omega (arith, f.most, c.requires.formed.1), omega (arith, f.recorded, c.requires.formed.1), omega (arith, w.size), w.short, w.narrow);
       start_value = (
-          c.steps_before-start.ensures.0,
-          c.steps_before-start.ensures.1,
-          λ h b. plan_asked (a.l + 1) a.rows.now a.records.now a.steps.now f h (omega (arith, c.requires.formed.1)),
-        );
+        c.steps_before-start.ensures.0,
+        c.steps_before-start.ensures.1,
+        λ h b. plan_asked (a.l + 1) a.rows.now a.records.now a.steps.now f h (omega (arith, c.requires.formed.1)),
+      );
       words_len = (refl, λ j. zeros 32 j);
     }
 

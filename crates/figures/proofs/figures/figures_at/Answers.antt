@@ -1,5 +1,5 @@
 -- `figures::figures::figures_at` meets its contract: the columns of the plan give the figures, and the first flow has none. Assumes nothing.
-use Rattle.std.proofs.Common.{◌≡◌, ℕ, ◌+◌, sym, ◌∙◌, arith, rules}
+use Rattle.std.proofs.Common.{◌≡◌, ℕ, ◌+◌, sym, ◌∙◌, arith}
 use Rattle.trade.specs.Limits.{most_flows}
 use Rattle.trade.specs.Facts.{facts_in}
 use Rattle.trade.specs.Interference.{interference}
@@ -17,10 +17,10 @@ returns-then-l-eq0 c =
 
 pub columns_at-width-requires : goal.columns_at-width-requires
 columns_at-width-requires c = let pre = c.requires in record {
-      formed = pre.formed;
-      most_nodes_in_bounds = pre.most_nodes_in_bounds;
-      columns_len = (omega arith, λ x h. zeros 64 x);
-    }
+  formed = pre.formed;
+  most_nodes_in_bounds = pre.most_nodes_in_bounds;
+  columns_len = (omega arith, λ x h. zeros 64 x);
+}
 
 pub slice_bounds-figures_by-end : goal.slice_bounds-figures_by-end
 slice_bounds-figures_by-end c = sym c.columns_at-width.ensures.size

@@ -1,9 +1,9 @@
 -- `figures::figures::figures_by` works the figures out, group by group. The loop's invariant: those of the flows above h stand in the array.
 -- The measure is how many flows are left. Assumes nothing.
-use Rattle.std.proofs.Common.{◌≡◌, ℕ, ◌+◌, ◌-◌, ◌*◌, ◌≤◌, List, length, sym, refl, ap, ◌∙◌, arith}
-use Rattle.trade.specs.Limits.{most_flows, most_id}
+use Rattle.std.proofs.Common.{◌≡◌, ℕ, ◌+◌, ◌-◌, List, length, sym, refl, ap, ◌∙◌, arith}
+use Rattle.trade.specs.Limits.{most_flows}
 use Rattle.trade.specs.First.{sum_to}
-use Rattle.sections.specs.Formed.{plan_start, plan_at}
+use Rattle.sections.specs.Formed.{plan_at}
 use Rattle.figures.specs.Figures.{figure_by}
 use Rattle.pairs.proofs.SpreadLaws.{zeros}
 use Rattle.figures.proofs.Padded.{filled, length_filled, filled_none}

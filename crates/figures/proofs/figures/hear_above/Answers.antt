@@ -1,5 +1,5 @@
 -- `figures::figures::hear_above` asks for the nodes of the plans above another. Assumes nothing.
-use Rattle.std.proofs.Common.{◌≡◌, ℕ, ◌-◌, Bool, ◌&&◌, sym, ap, ◌∙◌, arith, rules}
+use Rattle.std.proofs.Common.{◌≡◌, ℕ, ◌-◌, Bool, ◌&&◌, sym, ap, ◌∙◌, arith}
 use Rattle.trade.specs.First.{some, sum_to}
 use Rattle.trade.specs.Facts.{disturbs_in, step_in}
 use Rattle.trade.proofs.First.{some_none}

@@ -1,5 +1,5 @@
 -- `figures::figures::plan_at` cuts out the plan that the records say. Assumes nothing.
-use Rattle.std.proofs.Common.{◌∙◌, ap₂, rules}
+use Rattle.std.proofs.Common.{◌∙◌, ap₂}
 use Rattle.plans.specs.Plan.{plan_in}
 use Rattle.figures.proofs.figures.plan_at.Goals as goal
 

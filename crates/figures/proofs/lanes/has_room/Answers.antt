@@ -1,5 +1,5 @@
 -- `figures::lanes::has_room` asks for both. Assumes nothing.
-use Rattle.std.proofs.Common.{refl, rules, le-ltb, lt-ltb}
+use Rattle.std.proofs.Common.{refl, le-ltb, lt-ltb}
 use Rattle.figures.proofs.lanes.has_room.Goals as goal
 
 pub returns-then-h-l : goal.returns-then-h-l

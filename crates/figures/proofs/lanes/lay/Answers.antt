@@ -1,8 +1,8 @@
 -- `figures::lanes::lay` sets the marks of each step into its word. The loop's invariant: those of the first j steps are set. The measure
 -- is how many steps are left. Assumes nothing.
-use Rattle.std.proofs.Common.{◌≡◌, ◌-◌, ◌≤◌, ◌<◌, length, add-one, arith, rules}
+use Rattle.std.proofs.Common.{◌≡◌, ◌<◌, length, add-one, arith, rules}
 use Rattle.plans.specs.Plan.{steps_in}
-use Rattle.figures.proofs.LanesLaws.{LayingAt, laying_none, laying_more, laying_all}
+use Rattle.figures.proofs.LanesLaws.{laying_none, laying_more, laying_all}
 use Rattle.figures.proofs.lanes.lay.Goals as goal
 use Rattle.figures.proofs.lanes.lay.Goals.{In-loop-j}
 

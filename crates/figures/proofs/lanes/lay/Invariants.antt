@@ -1,8 +1,8 @@
 -- `figures::lanes::lay` sets the marks of each step into its word. The loop's invariant: those of the first j steps are set. The measure
 -- is how many steps are left. Assumes nothing.
-use Rattle.std.proofs.Common.{◌≡◌, ◌-◌, ◌≤◌, add-one, arith, rules}
+use Rattle.std.proofs.Common.{◌≡◌, ◌-◌, ◌≤◌}
 use Rattle.plans.specs.Plan.{steps_in}
-use Rattle.figures.proofs.LanesLaws.{LayingAt, laying_none, laying_more, laying_all}
+use Rattle.figures.proofs.LanesLaws.{LayingAt}
 use Rattle.figures.proofs.lanes.lay.Given as goal
 
 abbrev pub invariant-loop-j : goal.invariant-loop-j

@@ -1,13 +1,8 @@
 -- `figures::lanes::lay_group` lays flow by flow. The loop's invariant: those up to the next are laid, and the next lane begins where the
 -- last one ended. The measure is how many flows are left. Assumes nothing.
-use Rattle.std.proofs.Common.{◌≡◌, suc, ◌+◌, ◌-◌, ◌<◌, ◌≤◌, ◌⊎◌, length, sym, refl, ap, ◌∙◌, ap₂, ⊎_elim, arith, rules, ltb-true, lt-ltb}
-use Rattle.trade.proofs.First.{lt_or_ge, not_both, and_true}
-use Rattle.nodes.proofs.MaskLaws.{one_bit, bit_only}
-use Rattle.plans.specs.Plan.{steps_in, plan_in}
-use Rattle.sections.specs.Formed.{plan_at}
+use Rattle.std.proofs.Common.{◌≡◌, ◌-◌, length}
 use Rattle.figures.specs.Rises.{lane_at}
 use Rattle.figures.specs.Lanes.{GroupedTo}
-use Rattle.figures.proofs.LanesLaws.{lane_on, grouped_none, grouped_more}
 use Rattle.figures.proofs.lanes.lay_group.Given as goal
 
 abbrev pub invariant-loop-len : goal.invariant-loop-len

@@ -1,8 +1,7 @@
 -- `figures::lanes::read_out` reads lane by lane. The loop's invariant: the figures up to h are read. The measure is how many are left.
 -- Assumes nothing.
-use Rattle.std.proofs.Common.{◌≡◌, ℕ, suc, ◌+◌, ◌-◌, ◌≤◌, add-one, arith}
+use Rattle.std.proofs.Common.{◌≡◌, ℕ, suc, ◌-◌, add-one, arith}
 use Rattle.figures.specs.Rises.{lane_at}
-use Rattle.figures.specs.Lanes.{ReadOut}
 use Rattle.figures.proofs.RisesLaws.{lane_later}
 use Rattle.figures.proofs.LanesLaws.{read_none, read_more, lane_on}
 use Rattle.figures.proofs.lanes.read_out.Goals as goal

@@ -1,5 +1,5 @@
 -- `figures::rises::taken` reads the six bits. Assumes nothing.
-use Rattle.std.proofs.Common.{arith, rules}
+use Rattle.std.proofs.Common.{arith}
 use Rattle.figures.proofs.RisesLaws.{rise_digits, rise_small}
 use Rattle.figures.proofs.rises.taken.Goals as goal
 

@@ -1,5 +1,5 @@
 -- `figures::rises::worked` adds the marks to the places that let them through. Assumes nothing.
-use Rattle.std.proofs.Common.{arith, rules}
+use Rattle.std.proofs.Common.{arith}
 use Rattle.figures.proofs.RisesLaws.{Words, rising_fits, column_says}
 use Rattle.figures.proofs.rises.worked.Goals as goal
 use Rattle.figures.proofs.rises.worked.Goals.{After-struct_known-5-1}

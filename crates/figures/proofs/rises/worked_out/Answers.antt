@@ -1,8 +1,8 @@
 -- `figures::rises::worked_out` works the words in, the last first. The loop's invariant: each line says what is reached over the columns
 -- from j on. The measure is j. Assumes nothing.
-use Rattle.std.proofs.Common.{◌≡◌, ℕ, suc, ◌-◌, ◌≤◌, subst, arith, rules}
-use Rattle.trade.specs.Interference.{Matrix, worst_path}
-use Rattle.figures.specs.Rises.{lane_at, Says, Ends, Marks}
+use Rattle.std.proofs.Common.{◌≡◌, ℕ, suc, ◌-◌, subst, arith}
+use Rattle.trade.specs.Interference.{worst_path}
+use Rattle.figures.specs.Rises.{Says}
 use Rattle.figures.proofs.RisesLaws.{reached_in, lanes_none, lanes_more, lanes_low, lanes_reached}
 use Rattle.figures.proofs.rises.worked_out.Goals as goal
 

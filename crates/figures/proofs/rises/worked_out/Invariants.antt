@@ -1,9 +1,9 @@
 -- `figures::rises::worked_out` works the words in, the last first. The loop's invariant: each line says what is reached over the columns
 -- from j on. The measure is j. Assumes nothing.
-use Rattle.std.proofs.Common.{◌≡◌, ℕ, suc, ◌-◌, ◌≤◌, subst, arith, rules}
-use Rattle.trade.specs.Interference.{Matrix, worst_path}
+use Rattle.std.proofs.Common.{ℕ, ◌-◌, ◌≤◌}
+use Rattle.trade.specs.Interference.{Matrix}
 use Rattle.figures.specs.Rises.{lane_at, Says, Ends, Marks}
-use Rattle.figures.proofs.RisesLaws.{reached_in, lanes_none, lanes_more, lanes_low, lanes_reached}
+use Rattle.figures.proofs.RisesLaws.{reached_in}
 use Rattle.figures.proofs.rises.worked_out.Given as goal
 
 abbrev pub invariant-loop-j : goal.invariant-loop-j

@@ -1,5 +1,4 @@
 -- `nodes::conflict::conflict` asks the tests that the definition joins. Assumes nothing.
-use borrow.Author.Rules.{rules}
 use Rattle.trade.specs.Conflict.{conflict}
 use Rattle.nodes.proofs.conflict.conflict.Goals as goal
 

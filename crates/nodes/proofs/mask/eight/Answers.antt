@@ -2,7 +2,6 @@
 use mathlib.Core.Path.{◌∙◌}
 use native.Mathlib.Omega.{arith}
 use Rattle.nodes.proofs.MaskLaws.{halves_fit, halves_joined}
-use borrow.Author.Rules.{rules}
 use Rattle.nodes.proofs.mask.eight.Goals as goal
 
 pub joined-requires : goal.joined-requires

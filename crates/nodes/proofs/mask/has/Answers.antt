@@ -1,7 +1,6 @@
 -- `nodes::mask::has` reads one bit. Assumes nothing.
 use mathlib.Core.Path.{refl}
 use Rattle.trade.specs.Bytes.{bit}
-use borrow.Author.Rules.{rules}
 use Rattle.nodes.proofs.mask.has.Goals as goal
 
 pub returns : goal.returns

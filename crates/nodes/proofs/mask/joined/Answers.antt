@@ -1,7 +1,6 @@
 -- `nodes::mask::joined`: what is shifted past the lower part has no bit in common with it. Assumes nothing.
 use native.Mathlib.Nat.{mod-eq_of_lt}
 use lib.Bits.{or_shifted}
-use borrow.Author.Rules.{rules}
 use Rattle.nodes.proofs.mask.joined.Goals as goal
 
 pub returns : goal.returns

@@ -1,6 +1,5 @@
 -- `nodes::mask::only` sets one bit, which fits. Assumes nothing.
 use native.Mathlib.Omega.{arith}
-use borrow.Author.Rules.{rules}
 use Rattle.nodes.proofs.MaskLaws.{one_bit}
 use Rattle.nodes.proofs.mask.only.Goals as goal
 

@@ -1,6 +1,5 @@
 -- `nodes::mask::row_mask` is the eight bytes of the row. Assumes nothing.
 use Rattle.nodes.specs.Mask.{row_mask}
-use borrow.Author.Rules.{rules}
 use Rattle.nodes.proofs.mask.row_mask.Goals as goal
 
 pub returns : goal.returns

@@ -3,7 +3,6 @@ use mathlib.Core.Path.{◌∙◌}
 use Prim.Native.Nat.{◌+◌}
 use native.Mathlib.Omega.{arith}
 use Rattle.nodes.proofs.MaskLaws.{one_byte, halves_joined}
-use borrow.Author.Rules.{rules}
 use Rattle.nodes.proofs.mask.two.Goals as goal
 
 pub overflow_cast-bytes : goal.overflow_cast-bytes

@@ -2,7 +2,6 @@
 use Prim.Native.Nat.{ℕ, ◌+◌, ◌*◌}
 use mathlib.Core.Path.{ap₂}
 use Rattle.trade.specs.Bytes.{long}
-use borrow.Author.Rules.{rules}
 use Rattle.numbers.proofs.numbers.long_at.Goals as goal
 
 pub returns : goal.returns

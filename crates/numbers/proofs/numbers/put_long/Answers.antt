@@ -5,7 +5,6 @@ use native.Mathlib.Omega.{arith}
 use Rattle.trade.specs.Bytes.{two_bytes, four_bytes}
 use Rattle.numbers.specs.Pasting.{pasted_at}
 use Rattle.numbers.proofs.PastingLaws.{pasted_on}
-use borrow.Author.Rules.{rules}
 use Rattle.numbers.proofs.numbers.put_long.Goals as goal
 
 pub returns : goal.returns

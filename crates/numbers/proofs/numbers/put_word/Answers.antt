@@ -4,7 +4,6 @@ use native.Mathlib.Numerals.{add-one}
 use lib.Seq.{sets-eq}
 use Rattle.trade.specs.Bytes.{two_bytes}
 use Rattle.numbers.specs.Pasting.{pasted_at}
-use borrow.Author.Rules.{rules}
 use Rattle.numbers.proofs.numbers.put_word.Goals as goal
 
 pub returns : goal.returns

@@ -1,5 +1,4 @@
 -- `numbers::numbers::word_at` meets its contract: a byte is below 256, so two fit in 16 bits. Assumes nothing.
-use borrow.Author.Rules.{rules}
 use native.Mathlib.Omega.{arith}
 use Prim.Native.Nat.{ℕ, ◌+◌, ◌<◌}
 use mathlib.Core.Path.{refl}

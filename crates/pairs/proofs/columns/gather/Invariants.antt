@@ -1,15 +1,11 @@
 -- `pairs::columns::gather` notes the steps from the last on. The loop's invariant: the columns hold the last b steps, and what lies beyond
 -- them is as lent. The measure is how many steps are left. Assumes nothing.
-use Prim.Native.Nat.{ℕ, suc, ◌-◌, ◌≤◌}
-use mathlib.Core.Path.{◌≡◌, refl, ◌∙◌}
-use native.Mathlib.Omega.{arith}
-use native.Mathlib.Numerals.{add-one}
-use borrow.Author.Rules.{rules}
+use Prim.Native.Nat.{ℕ, ◌-◌, ◌≤◌}
+use mathlib.Core.Path.{◌≡◌}
 use lib.ListN.{length, get_or}
 use Rattle.trade.specs.Limits.{most_nodes}
 use Rattle.plans.specs.Plan.{steps_in}
 use Rattle.pairs.specs.Columns.{Columns}
-use Rattle.pairs.proofs.SpreadLaws.{columns_none, columns_more}
 use Rattle.pairs.proofs.columns.gather.Given as goal
 
 abbrev pub invariant-loop-b : goal.invariant-loop-b

@@ -3,7 +3,6 @@ use native.Mathlib.Omega.{arith}
 use lib.ListN.{get_or}
 use Rattle.pairs.specs.Columns.{marked_at}
 use Rattle.pairs.proofs.SpreadLaws.{halves_or}
-use borrow.Author.Rules.{rules}
 use Rattle.pairs.proofs.columns.marks_of.Goals as goal
 
 pub overflow_cast-result : goal.overflow_cast-result

@@ -1,14 +1,11 @@
 -- `pairs::columns::nodes_in` joins the ends of the steps. The loop's invariant: the set has those of the first j. The measure is how many
 -- steps are left. Assumes nothing.
 use Prim.Native.Nat.{ℕ, ◌-◌, ◌≤◌}
-use mathlib.Core.Path.{◌≡◌, refl}
-use native.Mathlib.Omega.{arith}
-use native.Mathlib.Numerals.{add-one}
+use mathlib.Core.Path.{◌≡◌}
 use Rattle.trade.specs.First.{some}
 use Rattle.trade.specs.Bytes.{bit}
 use Rattle.trade.specs.Facts.{step_in}
 use Rattle.pairs.specs.Columns.{ending}
-use Rattle.pairs.proofs.SpreadLaws.{ends_none, ends_more}
 use Rattle.pairs.proofs.columns.nodes_in.Given as goal
 
 abbrev pub invariant-loop-j : goal.invariant-loop-j

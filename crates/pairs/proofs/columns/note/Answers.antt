@@ -14,7 +14,6 @@ use Rattle.nodes.specs.Mask.{row_mask}
 use Rattle.pairs.specs.Columns.{near, receiving, sending}
 use Rattle.nodes.proofs.MaskLaws.{bit_or_lem, bit_row, one_bit}
 use Rattle.pairs.proofs.SpreadLaws.{noted, ends}
-use borrow.Author.Rules.{rules}
 use Rattle.pairs.proofs.columns.note.Goals as goal
 
 pub returns : goal.returns

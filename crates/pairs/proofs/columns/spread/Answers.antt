@@ -1,13 +1,13 @@
 -- `pairs::columns::spread` sets the mark at the lowest node that is left, and goes on without it. The loop's invariant: the nodes that are
 -- not left have the mark. The measure is what is left, as a number. Assumes nothing.
-use Prim.Native.Nat.{ℕ, ◌-◌, ◌≤◌, ◌<◌}
+use Prim.Native.Nat.{ℕ, ◌-◌, ◌<◌}
 use mathlib.Core.Path.{◌≡◌}
 use native.Mathlib.Omega.{arith}
 use lib.Bits.{and_le_l, and_le_r}
 use lib.Count.{count_trailing_zeros, trailing_le}
 use lib.ListN.{length}
 use Rattle.nodes.proofs.LowestLaws.{Lowest, trailing_lowest}
-use Rattle.pairs.proofs.SpreadLaws.{Spreading, spreading_none, spreading_more, spreading_all}
+use Rattle.pairs.proofs.SpreadLaws.{spreading_none, spreading_more, spreading_all}
 use Rattle.pairs.proofs.columns.spread.Goals as goal
 use Rattle.pairs.proofs.columns.spread.Goals.{In-loop-rest}
 

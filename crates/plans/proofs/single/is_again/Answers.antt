@@ -2,7 +2,6 @@
 use Prim.Native.Nat.{ℕ, suc, ◌-◌}
 use mathlib.Core.Path.{◌≡◌, refl, sym, ◌∙◌, ap}
 use native.Mathlib.Omega.{arith}
-use borrow.Author.Rules.{rules}
 use Rattle.trade.specs.Facts.{step_in}
 use Rattle.plans.specs.Single.{same, again}
 use Rattle.plans.proofs.single.is_again.Goals as goal

@@ -1,16 +1,13 @@
 -- `plans::single::single` writes each step that is no repeat behind those before it. The loop's invariant: the first k steps stand so. The
 -- measure is how many steps are left. Assumes nothing.
-use Prim.Native.Nat.{◌+◌, ◌-◌, ◌*◌, ◌≤◌, ◌<◌}
+use Prim.Native.Nat.{◌+◌, ◌*◌, ◌<◌}
 use mathlib.Core.Path.{◌≡◌, refl, sym, ◌∙◌}
-use mathlib.Core.Logic.{⊎_elim}
 use native.Mathlib.Omega.{arith}
 use native.Mathlib.Numerals.{add-one}
-use borrow.Author.Rules.{rules}
-use borrow.Author.Tests.{not-true, not-false}
 use lib.ListN.{length}
 use Rattle.trade.specs.Limits.{step_bytes}
 use Rattle.plans.specs.Plan.{steps_in}
-use Rattle.plans.specs.Single.{singles, SingledTo}
+use Rattle.plans.specs.Single.{singles}
 use Rattle.plans.proofs.SingleLaws.{singles_most, singles_again, singles_new, singled_none, singled_again, singled_new}
 use Rattle.plans.proofs.single.single.Goals as goal
 use Rattle.plans.proofs.single.single.Goals.{then-not-is_again, else-not-is_again}
@@ -48,11 +45,11 @@ loop-k-preserved c =
       omega arith,
       loop.invariant.1,
       elim c.if-not-is_again.branch [
-        then-not-is_again w ↦ rw w.found-is (omega (arith, loop.invariant.2, singles_new plan loop.k (sym known ∙ w.if-not-is_again.true)))
+        | then-not-is_again w ↦ rw w.found-is (omega (arith, loop.invariant.2, singles_new plan loop.k (sym known ∙ w.if-not-is_again.true)))
         | else-not-is_again w ↦ rw w.found-is (loop.invariant.2 ∙ sym (singles_again plan loop.k (sym known ∙ w.if-not-is_again.false)))
       ],
       elim c.if-not-is_again.branch [
-        then-not-is_again w ↦
+        | then-not-is_again w ↦
             let room : step_bytes * singles plan loop.k + 1 < length loop.out = omega (arith, loop.invariant.1, loop.invariant.2, singles_most plan loop.k, loop.invariant.3.size, c.requires) in
             rw (w.out-is, w.put_step.ensures, w.step_at.ensures, loop.invariant.2) (singled_new plan loop.k c.args.out.now loop.out (sym known ∙ w.if-not-is_again.true) room loop.invariant.3)
         | else-not-is_again w ↦ rw w.out-is (singled_again plan loop.k c.args.out.now loop.out (sym known ∙ w.if-not-is_again.false) loop.invariant.3)

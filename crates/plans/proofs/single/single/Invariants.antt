@@ -1,17 +1,9 @@
 -- `plans::single::single` writes each step that is no repeat behind those before it. The loop's invariant: the first k steps stand so. The
 -- measure is how many steps are left. Assumes nothing.
-use Prim.Native.Nat.{◌+◌, ◌-◌, ◌*◌, ◌≤◌, ◌<◌}
-use mathlib.Core.Path.{◌≡◌, refl, sym, ◌∙◌}
-use mathlib.Core.Logic.{⊎_elim}
-use native.Mathlib.Omega.{arith}
-use native.Mathlib.Numerals.{add-one}
-use borrow.Author.Rules.{rules}
-use borrow.Author.Tests.{not-true, not-false}
-use lib.ListN.{length}
-use Rattle.trade.specs.Limits.{step_bytes}
+use Prim.Native.Nat.{◌-◌, ◌≤◌}
+use mathlib.Core.Path.{◌≡◌}
 use Rattle.plans.specs.Plan.{steps_in}
 use Rattle.plans.specs.Single.{singles, SingledTo}
-use Rattle.plans.proofs.SingleLaws.{singles_most, singles_again, singles_new, singled_none, singled_again, singled_new}
 use Rattle.plans.proofs.single.single.Given as goal
 
 abbrev pub invariant-loop-k : goal.invariant-loop-k

@@ -1,7 +1,6 @@
 -- `plans::steps::plan_part` cuts a plan out of a steps section: from its first step on, and then to its end. Assumes nothing.
 use native.Mathlib.Omega.{arith}
 use lib.ListN.{length-take, length-drop}
-use borrow.Author.Rules.{rules}
 use Rattle.plans.proofs.StepsLaws.{plan_cut, plan_rest, plan_past}
 use Rattle.plans.proofs.steps.plan_part.Goals as goal
 

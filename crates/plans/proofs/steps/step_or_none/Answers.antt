@@ -1,7 +1,6 @@
 -- `plans::steps::step_or_none` reads a step where the part holds it whole. Assumes nothing.
 use mathlib.Core.Path.{sym, ◌∙◌}
 use native.Mathlib.Omega.{arith}
-use borrow.Author.Rules.{rules}
 use Rattle.plans.proofs.StepsLaws.{step_held, step_missing}
 use Rattle.plans.proofs.steps.step_or_none.Goals as goal
 

@@ -1,6 +1,5 @@
 -- `rules::rules::enter_answer` meets its contract: each answer stands behind the tests that led to it. Assumes nothing.
 use mathlib.Core.Path.{sym, ◌∙◌}
-use borrow.Author.Rules.{rules}
 use borrow.Author.Tests.{eq-eqb, ne_eqb, lt-ltb, le-ltb}
 use Rattle.trade.specs.Facts.{facts_of}
 use Rattle.trade.specs.Answers.{is_done, given, no_number}

@@ -1,6 +1,5 @@
 -- `rules::rules::leave_answer` meets its contract: code 15 is given where the test holds. Assumes nothing.
 use mathlib.Core.Path.{◌∙◌}
-use borrow.Author.Rules.{rules}
 use borrow.Author.Tests.{le-leb, lt-leb}
 use Rattle.trade.specs.Facts.{facts_of}
 use Rattle.trade.specs.Answers.{given}

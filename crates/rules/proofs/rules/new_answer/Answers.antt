@@ -24,7 +24,6 @@ use Rattle.table.proofs.CheckedLaws.{formed_timed}
 use Rattle.rules.specs.Rules.{NewFigures}
 use Rattle.square.proofs.CarriedLaws.{formed_pairs, with_figures_lem}
 use Rattle.rules.proofs.RulesLaws.{new_nine, with_nine}
-use borrow.Author.Rules.{rules}
 use Rattle.rules.proofs.rules.new_answer.Goals as goal
 use Rattle.rules.proofs.rules.new_answer.Goals.{After-bounds_with, After-pairs_at-pairs, After-records_answer-named, After-steps_answer-stepped, Else-named-ne0, Else-stepped-ne0, Start}
 

@@ -5,7 +5,6 @@ use native.Mathlib.Omega.{arith}
 use lib.ListN.{length-take}
 use lib.Seq.{length-take-le}
 use Rattle.trade.specs.Limits.{row_bytes, record_bytes}
-use borrow.Author.Rules.{rules}
 use Rattle.rules.proofs.rules.used_answer.Goals as goal
 
 pub slice_bounds-new_answer-end : goal.slice_bounds-new_answer-end

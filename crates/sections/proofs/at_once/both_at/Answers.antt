@@ -2,7 +2,6 @@
 use native.Mathlib.Omega.{arith}
 use Prim.Native.Nat.{◌+◌, ◌*◌}
 use Rattle.trade.specs.Facts.{step_in}
-use borrow.Author.Rules.{rules}
 use Rattle.sections.proofs.at_once.both_at.Goals as goal
 
 pub overflow_cast-result : goal.overflow_cast-result

@@ -1,14 +1,10 @@
 -- `sections::at_once::count_anew` meets its contract: it has counted the plans before i. Assumes nothing.
-use Prim.Native.Nat.{ℕ, ◌+◌, ◌-◌, ◌*◌, ◌≤◌}
-use mathlib.Core.Path.{◌≡◌, refl, ◌∙◌, ap}
-use lib.ListN.{length}
-use native.Mathlib.Omega.{arith}
+use Prim.Native.Nat.{◌-◌, ◌≤◌}
+use mathlib.Core.Path.{◌≡◌}
 use Rattle.trade.specs.First.{sum_to}
 use Rattle.trade.specs.Layout.{field}
 use Rattle.trade.specs.Interference.{one}
 use Rattle.sections.specs.Steps.{starts_anew}
-use Rattle.sections.proofs.StepsLaws.{plan_room}
-use Rattle.sections.proofs.AtOnceLaws.{sum_more}
 use Rattle.sections.proofs.at_once.count_anew.Given as goal
 
 abbrev pub invariant-loop-i : goal.invariant-loop-i

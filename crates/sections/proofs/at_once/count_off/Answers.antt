@@ -1,5 +1,5 @@
 -- `sections::at_once::count_off` meets its contract: it has counted the steps before k. Assumes nothing.
-use Prim.Native.Nat.{ℕ, ◌≤◌, ◌-◌, ◌/◌, ◌%◌}
+use Prim.Native.Nat.{ℕ, ◌/◌, ◌%◌}
 use mathlib.Core.Path.{◌≡◌, refl, sym, ◌∙◌, ap}
 use native.Mathlib.Omega.{arith}
 use lib.Dec.{eqb}

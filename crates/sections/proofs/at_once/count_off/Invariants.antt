@@ -1,13 +1,9 @@
 -- `sections::at_once::count_off` meets its contract: it has counted the steps before k. Assumes nothing.
-use Prim.Native.Nat.{ℕ, ◌≤◌, ◌-◌, ◌/◌, ◌%◌}
-use mathlib.Core.Path.{◌≡◌, refl, sym, ◌∙◌, ap}
-use native.Mathlib.Omega.{arith}
-use lib.Dec.{eqb}
+use Prim.Native.Nat.{◌≤◌, ◌-◌}
+use mathlib.Core.Path.{◌≡◌}
 use Rattle.trade.specs.First.{sum_to}
-use Rattle.trade.specs.Facts.{step_in}
 use Rattle.trade.specs.Interference.{one}
-use Rattle.sections.specs.Steps.{own, off}
-use Rattle.sections.proofs.AtOnceLaws.{off_alone, sum_none, sum_more}
+use Rattle.sections.specs.Steps.{off}
 use Rattle.sections.proofs.at_once.count_off.Given as goal
 
 abbrev pub invariant-loop-k : goal.invariant-loop-k

@@ -1,9 +1,6 @@
 -- `sections::at_once::highest` meets its contract: no byte before k is above the highest so far. Assumes nothing.
-use Prim.Native.Nat.{ℕ, ◌≤◌, ◌<◌, ◌-◌}
-use mathlib.Core.Logic.{⊎_elim}
 use borrow.Author.Count.{below_more}
 use native.Mathlib.Omega.{arith}
-use Rattle.trade.specs.Bytes.{byte}
 use Rattle.sections.proofs.at_once.highest.Goals as goal
 use Rattle.sections.proofs.at_once.highest.Goals.{else-most-b, then-most-b}
 

@@ -1,8 +1,5 @@
 -- `sections::at_once::highest` meets its contract: no byte before k is above the highest so far. Assumes nothing.
 use Prim.Native.Nat.{ℕ, ◌≤◌, ◌<◌, ◌-◌}
-use mathlib.Core.Logic.{⊎_elim}
-use borrow.Author.Count.{below_more}
-use native.Mathlib.Omega.{arith}
 use Rattle.trade.specs.Bytes.{byte}
 use Rattle.sections.proofs.at_once.highest.Given as goal
 

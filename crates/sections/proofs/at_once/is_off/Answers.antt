@@ -3,7 +3,6 @@ use mathlib.Core.Path.{refl}
 use Rattle.trade.specs.Codes.{repeats, goes_on}
 use Rattle.sections.specs.Steps.{unjoined, own, off}
 use Rattle.sections.proofs.AtOnceLaws.{both_equal}
-use borrow.Author.Rules.{rules}
 use Rattle.sections.proofs.at_once.is_off.Goals as goal
 
 pub returns : goal.returns

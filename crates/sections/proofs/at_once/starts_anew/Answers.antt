@@ -1,13 +1,11 @@
 -- `sections::at_once::starts_anew` meets its contract: a plan with a step has a first one. Assumes nothing.
 use Prim.Native.Nat.{◌-◌}
 use mathlib.Core.Path.{◌≡◌, refl}
-use mathlib.Core.Logic.{⊎_elim}
 use native.Mathlib.Omega.{arith}
 use borrow.Author.Tests.{eq-eqb, ne_eqb}
 use Rattle.trade.specs.Codes.{repeats, goes_on}
 use Rattle.sections.specs.Steps.{unjoined, own, fresh}
 use Rattle.sections.proofs.AtOnceLaws.{both_equal}
-use borrow.Author.Rules.{rules}
 use Rattle.sections.proofs.at_once.starts_anew.Goals as goal
 use Rattle.sections.proofs.at_once.starts_anew.Goals.{else-at-eq0, then-at-eq0}
 

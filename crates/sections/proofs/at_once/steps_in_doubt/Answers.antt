@@ -11,7 +11,6 @@ use Rattle.trade.specs.Interference.{one}
 use Rattle.trade.proofs.First.{not_both, or_false}
 use Rattle.sections.specs.Steps.{off}
 use Rattle.sections.proofs.AtOnceLaws.{none_bad}
-use borrow.Author.Rules.{rules}
 use Rattle.sections.proofs.at_once.steps_in_doubt.Goals as goal
 use Rattle.sections.proofs.at_once.steps_in_doubt.Goals.{Else-all}
 

@@ -1,5 +1,4 @@
 -- `sections::records::flow_of` meets its contract: each field is the word at its place. Assumes nothing.
-use borrow.Author.Rules.{rules}
 use Rattle.trade.specs.Layout.{field}
 use Rattle.trade.specs.Facts.{flow_in}
 use Rattle.sections.proofs.records.flow_of.Goals as goal

@@ -1,5 +1,4 @@
 -- `sections::records::id_at` meets its contract: the id is a record's first field. Assumes nothing.
-use borrow.Author.Rules.{rules}
 use mathlib.Core.Path.{◌∙◌}
 use Rattle.sections.proofs.RecordsLaws.{field_first}
 use Rattle.sections.proofs.records.id_at.Goals as goal

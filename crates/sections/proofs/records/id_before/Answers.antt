@@ -1,8 +1,6 @@
 -- `sections::records::id_before` meets its contract: no record before j has the id. Assumes nothing.
-use Prim.Native.Nat.{ℕ, ◌≤◌, ◌<◌, ◌-◌}
+use Prim.Native.Nat.{ℕ}
 use mathlib.Core.Path.{◌≡◌, ◌∙◌, sym, ap}
-use mathlib.Core.Bool.{false}
-use borrow.Author.Rules.{rules}
 use borrow.Author.Count.{below_more}
 use borrow.Author.Tests.{eq-eqb, ne_eqb}
 use native.Mathlib.Omega.{arith}

@@ -1,14 +1,9 @@
 -- `sections::records::id_before` meets its contract: no record before j has the id. Assumes nothing.
 use Prim.Native.Nat.{ℕ, ◌≤◌, ◌<◌, ◌-◌}
-use mathlib.Core.Path.{◌≡◌, ◌∙◌, sym, ap}
+use mathlib.Core.Path.{◌≡◌}
 use mathlib.Core.Bool.{false}
-use borrow.Author.Rules.{rules}
-use borrow.Author.Count.{below_more}
-use borrow.Author.Tests.{eq-eqb, ne_eqb}
-use native.Mathlib.Omega.{arith}
 use lib.Dec.{eqb}
 use Rattle.trade.specs.Layout.{field}
-use Rattle.trade.proofs.First.{some_intro, some_none}
 use Rattle.sections.proofs.records.id_before.Given as goal
 
 abbrev pub invariant-loop-j : goal.invariant-loop-j

@@ -1,6 +1,5 @@
 -- `sections::records::is_bad_record` meets its contract: the two tests are those of code 6. Assumes nothing.
 use Rattle.sections.proofs.RecordsLaws.{bad_record_lem}
-use borrow.Author.Rules.{rules}
 use Rattle.sections.proofs.records.is_bad_record.Goals as goal
 
 pub returns : goal.returns

@@ -1,5 +1,4 @@
 -- `sections::records::is_misfit` meets its contract: it joins the tests of the five fields. Assumes nothing.
-use borrow.Author.Rules.{rules}
 use Rattle.sections.specs.Records.{misfit}
 use Rattle.sections.proofs.records.is_misfit.Goals as goal
 

@@ -1,6 +1,5 @@
 -- `sections::records::is_repeat` meets its contract: without a search nothing is found, as it requires. Assumes nothing.
 use mathlib.Core.Path.{sym}
-use borrow.Author.Rules.{rules}
 use Rattle.sections.proofs.records.is_repeat.Goals as goal
 
 pub returns : goal.returns

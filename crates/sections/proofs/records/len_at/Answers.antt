@@ -1,5 +1,4 @@
 -- `sections::records::len_at` meets its contract: L is a record's fifth field. Assumes nothing.
-use borrow.Author.Rules.{rules}
 use native.Mathlib.Omega.{arith}
 use Rattle.trade.specs.Layout.{field}
 use Rattle.sections.proofs.records.len_at.Goals as goal

@@ -1,5 +1,4 @@
 -- `sections::records::record_at` meets its contract: the part that starts at the record has it in front. Assumes nothing.
-use borrow.Author.Rules.{rules}
 use Prim.Native.Nat.{ℕ, ◌*◌}
 use mathlib.Core.Path.{◌∙◌, ap}
 use mathlib.Core.List.{List}

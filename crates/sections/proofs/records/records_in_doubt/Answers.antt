@@ -1,13 +1,11 @@
 -- `sections::records::records_in_doubt` meets its contract: no record before i is bad where it says so, and the lower bytes of their ids are
 -- marked. Assumes nothing.
-use Prim.Native.Nat.{ℕ, ◌≤◌, ◌<◌, ◌-◌, ◌%◌}
-use mathlib.Core.Path.{◌≡◌, refl, ◌∙◌, sym}
-use mathlib.Core.Bool.{false}
+use Prim.Native.Nat.{◌%◌}
+use mathlib.Core.Path.{refl, ◌∙◌, sym}
 use mathlib.Core.List.{[]}
 use borrow.Author.Count.{below_more}
 use native.Mathlib.Omega.{arith}
-use lib.ListN.{length, get_or, length-set}
-use Rattle.trade.specs.Layout.{field}
+use lib.ListN.{length-set}
 use Rattle.trade.specs.Facts.{facts_in, facts_of}
 use Rattle.trade.specs.Codes.{bad_record, code6}
 use Rattle.trade.proofs.First.{or_false}

@@ -1,18 +1,13 @@
 -- `sections::records::records_in_doubt` meets its contract: no record before i is bad where it says so, and the lower bytes of their ids are
 -- marked. Assumes nothing.
 use Prim.Native.Nat.{ℕ, ◌≤◌, ◌<◌, ◌-◌, ◌%◌}
-use mathlib.Core.Path.{◌≡◌, refl, ◌∙◌, sym}
+use mathlib.Core.Path.{◌≡◌}
 use mathlib.Core.Bool.{false}
 use mathlib.Core.List.{[]}
-use borrow.Author.Count.{below_more}
-use native.Mathlib.Omega.{arith}
-use lib.ListN.{length, get_or, length-set}
+use lib.ListN.{length, get_or}
 use Rattle.trade.specs.Layout.{field}
-use Rattle.trade.specs.Facts.{facts_in, facts_of}
-use Rattle.trade.specs.Codes.{bad_record, code6}
-use Rattle.trade.proofs.First.{or_false}
-use Rattle.trade.proofs.Answers.{given_first_none}
-use Rattle.sections.proofs.RecordsLaws.{unmet, mark_more}
+use Rattle.trade.specs.Facts.{facts_in}
+use Rattle.trade.specs.Codes.{bad_record}
 use Rattle.sections.proofs.records.records_in_doubt.Given as goal
 
 abbrev pub invariant-loop-i : goal.invariant-loop-i

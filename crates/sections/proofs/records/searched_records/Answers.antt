@@ -1,7 +1,5 @@
 -- `sections::records::searched_records` meets its contract: no record before i is bad. Assumes nothing.
-use Prim.Native.Nat.{ℕ, ◌≤◌, ◌<◌, ◌-◌}
-use mathlib.Core.Path.{◌≡◌, refl, ◌∙◌, sym}
-use mathlib.Core.Bool.{false}
+use mathlib.Core.Path.{refl, ◌∙◌, sym}
 use mathlib.Core.List.{[]}
 use borrow.Author.Count.{below_more}
 use native.Mathlib.Omega.{arith}
@@ -16,9 +14,9 @@ loop-i-init c = (omega arith, λ k h. absurd (omega arith))
 
 pub is_bad_record-requires : goal.is_bad_record-requires
 is_bad_record-requires c = record {
-      record_bytes_in_bounds = omega arith;
-      i_value = λ e. absurd (not_both refl e);
-    }
+  record_bytes_in_bounds = omega arith;
+  i_value = λ e. absurd (not_both refl e);
+}
 
 pub refused-requires : goal.refused-requires
 refused-requires c = tt

@@ -1,8 +1,7 @@
 -- `sections::records::steps_before` meets its contract: the sum is that of the plans passed. Assumes nothing.
-use Prim.Native.Nat.{ℕ, ◌≤◌, ◌+◌, ◌-◌, ◌*◌}
+use Prim.Native.Nat.{ℕ, ◌+◌}
 use mathlib.Core.Path.{◌≡◌, refl, ◌∙◌, ap, ap₂}
 use native.Mathlib.Numerals.{add-one}
-use Rattle.trade.specs.Limits.{most_id}
 use native.Mathlib.Omega.{arith}
 use Rattle.trade.specs.First.{sum_to}
 use Rattle.trade.specs.Layout.{field}

@@ -3,7 +3,6 @@ use Prim.Native.Nat.{◌+◌, ◌-◌}
 use mathlib.Core.Path.{◌≡◌, refl}
 use native.Mathlib.Omega.{arith}
 use lib.Pow.{shr-shr}
-use borrow.Author.Rules.{rules}
 use Rattle.sections.proofs.rows.has_above.Goals as goal
 
 pub returns : goal.returns

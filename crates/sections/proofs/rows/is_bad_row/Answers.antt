@@ -2,7 +2,6 @@
 use native.Mathlib.Omega.{arith}
 use Rattle.trade.specs.Bytes.{bit}
 use Rattle.sections.proofs.RowsLaws.{bad_row_lem}
-use borrow.Author.Rules.{rules}
 use Rattle.sections.proofs.rows.is_bad_row.Goals as goal
 
 pub returns : goal.returns

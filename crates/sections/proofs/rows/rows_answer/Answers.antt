@@ -1,7 +1,5 @@
 -- `sections::rows::rows_answer` meets its contract: no row before x is bad. Assumes nothing.
-use Prim.Native.Nat.{ℕ, ◌≤◌, ◌<◌, ◌-◌}
-use mathlib.Core.Path.{◌≡◌, ◌∙◌, sym}
-use mathlib.Core.Bool.{false}
+use mathlib.Core.Path.{◌∙◌, sym}
 use mathlib.Core.List.{[]}
 use borrow.Author.Count.{below_more}
 use native.Mathlib.Omega.{arith}

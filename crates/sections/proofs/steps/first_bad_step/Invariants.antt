@@ -1,10 +1,7 @@
 -- `sections::steps::first_bad_step` meets its contract: no step before j is bad. Assumes nothing.
 use Prim.Native.Nat.{ℕ, ◌≤◌, ◌<◌, ◌-◌}
-use mathlib.Core.Path.{◌≡◌, ◌∙◌, sym}
+use mathlib.Core.Path.{◌≡◌}
 use mathlib.Core.Bool.{false}
-use borrow.Author.Count.{below_more}
-use native.Mathlib.Omega.{arith}
-use Rattle.trade.proofs.First.{first_unique}
 use Rattle.sections.specs.Steps.{bad_in_plan}
 use Rattle.sections.proofs.steps.first_bad_step.Given as goal
 

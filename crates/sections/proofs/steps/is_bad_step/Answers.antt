@@ -1,6 +1,5 @@
 -- `sections::steps::is_bad_step` meets its contract: the first step of a plan is tested by itself, a later one with the step before.
 -- Assumes nothing.
-use borrow.Author.Rules.{rules}
 use borrow.Author.Tests.{ne_eqb}
 use mathlib.Core.Path.{◌≡◌, ◌∙◌, sym}
 use mathlib.Core.Bool.{or-false}

@@ -1,7 +1,6 @@
 -- `sections::steps::is_misplaced` meets its contract: each of the three tests stands as in the definition. Assumes nothing.
 use mathlib.Core.Path.{refl}
 use Rattle.sections.specs.Steps.{misplaced}
-use borrow.Author.Rules.{rules}
 use Rattle.sections.proofs.steps.is_misplaced.Goals as goal
 
 pub returns : goal.returns

@@ -1,9 +1,7 @@
 -- `sections::steps::searched_steps` meets its contract: no step of the plans passed is bad. Assumes nothing.
-use Prim.Native.Nat.{ℕ, ◌≤◌, ◌<◌, ◌+◌, ◌-◌, ◌*◌}
+use Prim.Native.Nat.{ℕ, ◌≤◌, ◌+◌, ◌*◌}
 use mathlib.Core.Path.{◌≡◌, refl, ◌∙◌, sym, ap, ap₂}
-use mathlib.Core.Bool.{false}
 use mathlib.Core.List.{List, []}
-use borrow.Author.Rules.{rules}
 use lib.ListN.{length, drop, length-drop}
 use native.Mathlib.Omega.{arith}
 use Rattle.trade.specs.Limits.{step_bytes}

@@ -1,7 +1,7 @@
 -- `square::carried::figures_out` puts line by line. The loop's invariant: the first l lines hold their figures. The measure is how many are
 -- left. Assumes nothing.
-use Prim.Native.Nat.{◌+◌, ◌-◌, ◌*◌, ◌≤◌}
-use mathlib.Core.Path.{◌≡◌, sym, ◌∙◌}
+use Prim.Native.Nat.{◌+◌, ◌*◌}
+use mathlib.Core.Path.{◌≡◌, ◌∙◌}
 use native.Mathlib.Omega.{arith}
 use borrow.Author.Tests.{lt-ltb, le-ltb}
 use lib.Dec.{ltb}
@@ -9,7 +9,7 @@ use Rattle.trade.specs.Limits.{most_flows}
 use Rattle.trade.specs.Kept.{figure_in}
 use Rattle.trade.specs.Exchange.{before_out}
 use Rattle.square.specs.Carried.{out_line, without_figures}
-use Rattle.square.proofs.KeptLaws.{line_bytes, used, Lines, lines_none, lines_more, lines_all, one_more}
+use Rattle.square.proofs.KeptLaws.{line_bytes, lines_none, lines_more, lines_all, one_more}
 use Rattle.square.proofs.CarriedLaws.{left_left}
 use Rattle.square.proofs.carried.figures_out.Goals as goal
 use Rattle.square.proofs.carried.figures_out.Goals.{After-line_out-line}

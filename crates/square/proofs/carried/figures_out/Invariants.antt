@@ -1,16 +1,11 @@
 -- `square::carried::figures_out` puts line by line. The loop's invariant: the first l lines hold their figures. The measure is how many are
 -- left. Assumes nothing.
-use Prim.Native.Nat.{◌+◌, ◌-◌, ◌*◌, ◌≤◌}
-use mathlib.Core.Path.{◌≡◌, sym, ◌∙◌}
-use native.Mathlib.Omega.{arith}
-use borrow.Author.Tests.{lt-ltb, le-ltb}
+use Prim.Native.Nat.{◌-◌, ◌≤◌}
 use lib.Dec.{ltb}
 use Rattle.trade.specs.Limits.{most_flows}
 use Rattle.trade.specs.Kept.{figure_in}
 use Rattle.trade.specs.Exchange.{before_out}
-use Rattle.square.specs.Carried.{out_line, without_figures}
-use Rattle.square.proofs.KeptLaws.{line_bytes, used, Lines, lines_none, lines_more, lines_all, one_more}
-use Rattle.square.proofs.CarriedLaws.{left_left}
+use Rattle.square.proofs.KeptLaws.{used, Lines}
 use Rattle.square.proofs.carried.figures_out.Given as goal
 
 abbrev pub invariant-loop-l : goal.invariant-loop-l

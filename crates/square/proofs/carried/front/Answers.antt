@@ -1,11 +1,11 @@
 -- `square::carried::front` copies figure by figure. The loop's invariant: those up to h are copied. The measure is how many are left.
 -- Assumes nothing.
-use Prim.Native.Nat.{ℕ, ◌-◌, ◌≤◌}
+use Prim.Native.Nat.{ℕ}
 use mathlib.Core.Path.{◌≡◌, sym}
 use lib.ListN.{get_or}
 use native.Mathlib.Omega.{arith}
 use Rattle.trade.specs.Limits.{most_flows}
-use Rattle.figures.proofs.Padded.{filled, filled_none, filled_more}
+use Rattle.figures.proofs.Padded.{filled_none, filled_more}
 use Rattle.square.proofs.carried.front.Goals as goal
 
 pub loop-h-init : goal.loop-h-init

@@ -1,11 +1,10 @@
 -- `square::carried::front` copies figure by figure. The loop's invariant: those up to h are copied. The measure is how many are left.
 -- Assumes nothing.
-use Prim.Native.Nat.{ℕ, ◌-◌, ◌≤◌}
-use mathlib.Core.Path.{◌≡◌, sym}
+use Prim.Native.Nat.{◌-◌, ◌≤◌}
+use mathlib.Core.Path.{◌≡◌}
 use lib.ListN.{get_or}
-use native.Mathlib.Omega.{arith}
 use Rattle.trade.specs.Limits.{most_flows}
-use Rattle.figures.proofs.Padded.{filled, filled_none, filled_more}
+use Rattle.figures.proofs.Padded.{filled}
 use Rattle.square.proofs.carried.front.Given as goal
 
 abbrev pub invariant-loop-h : goal.invariant-loop-h

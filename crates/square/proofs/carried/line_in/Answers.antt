@@ -1,6 +1,5 @@
 -- `square::carried::line_in` has zeros for no flow. Assumes nothing.
 use mathlib.Core.Path.{sym, ◌∙◌}
-use borrow.Author.Rules.{rules}
 use Rattle.trade.specs.Limits.{most_flows}
 use Rattle.figures.proofs.Padded.{filled_none}
 use Rattle.square.proofs.KeptLaws.{line_used, line_unused}

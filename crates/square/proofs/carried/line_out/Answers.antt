@@ -1,7 +1,6 @@
 -- `square::carried::line_out` reads the line of a flow from where it stood, and has zeros for none. Assumes nothing.
 use mathlib.Core.Path.{sym, ◌∙◌}
 use native.Mathlib.Omega.{arith}
-use borrow.Author.Rules.{rules}
 use Rattle.trade.specs.Limits.{most_flows}
 use Rattle.figures.proofs.Padded.{filled_none}
 use Rattle.square.proofs.KeptLaws.{line_unused}

@@ -2,7 +2,6 @@
 -- from its pairs. Assumes nothing.
 use mathlib.Core.Path.{◌∙◌}
 use native.Mathlib.Omega.{arith}
-use borrow.Author.Rules.{rules}
 use Rattle.square.proofs.CarriedLaws.{with_above, with_own, with_below}
 use Rattle.square.proofs.carried.line_with.Goals as goal
 

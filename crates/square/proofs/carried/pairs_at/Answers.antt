@@ -1,6 +1,6 @@
 -- `square::carried::pairs_at` works the line of the flow out, and then the figure of it for each flow below. The loop's invariant: the
 -- pairs up to l are there. The measure is how many flows are left. Assumes nothing.
-use Prim.Native.Nat.{ℕ, ◌+◌, ◌-◌, ◌<◌, ◌≤◌}
+use Prim.Native.Nat.{ℕ, ◌+◌}
 use mathlib.Core.Path.{◌≡◌, refl, sym, ◌∙◌}
 use native.Mathlib.Omega.{arith}
 use Rattle.trade.specs.Limits.{most_flows}
@@ -8,16 +8,16 @@ use Rattle.trade.specs.Facts.{Facts, facts_in}
 use Rattle.sections.proofs.FormedLaws.{formed_less}
 use Rattle.pairs.proofs.SpreadLaws.{zeros}
 use Rattle.figures.proofs.FiguresLaws.{all_heard}
-use Rattle.figures.proofs.Padded.{filled, filled_more}
+use Rattle.figures.proofs.Padded.{filled_more}
 use Rattle.square.specs.Carried.{pair_in}
 use Rattle.square.proofs.CarriedLaws.{pair_below, pairs_begun}
 use Rattle.square.proofs.carried.pairs_at.Goals as goal
 
 pub hear_above-requires : goal.hear_above-requires
 hear_above-requires c = record {
-      formed = c.requires.0;
-      heard_len = (refl, λ y h. zeros 64 y);
-    }
+  formed = c.requires.0;
+  heard_len = (refl, λ y h. zeros 64 y);
+}
 
 pub slice_bounds-figures_at-end : goal.slice_bounds-figures_at-end
 slice_bounds-figures_at-end c = sym c.hear_above.ensures.size

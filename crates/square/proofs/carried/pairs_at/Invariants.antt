@@ -1,16 +1,11 @@
 -- `square::carried::pairs_at` works the line of the flow out, and then the figure of it for each flow below. The loop's invariant: the
 -- pairs up to l are there. The measure is how many flows are left. Assumes nothing.
-use Prim.Native.Nat.{ℕ, ◌+◌, ◌-◌, ◌<◌, ◌≤◌}
-use mathlib.Core.Path.{◌≡◌, refl, sym, ◌∙◌}
-use native.Mathlib.Omega.{arith}
+use Prim.Native.Nat.{◌-◌, ◌<◌, ◌≤◌}
+use mathlib.Core.Path.{◌≡◌}
 use Rattle.trade.specs.Limits.{most_flows}
-use Rattle.trade.specs.Facts.{Facts, facts_in}
-use Rattle.sections.proofs.FormedLaws.{formed_less}
-use Rattle.pairs.proofs.SpreadLaws.{zeros}
-use Rattle.figures.proofs.FiguresLaws.{all_heard}
-use Rattle.figures.proofs.Padded.{filled, filled_more}
+use Rattle.trade.specs.Facts.{facts_in}
+use Rattle.figures.proofs.Padded.{filled}
 use Rattle.square.specs.Carried.{pair_in}
-use Rattle.square.proofs.CarriedLaws.{pair_below, pairs_begun}
 use Rattle.square.proofs.carried.pairs_at.Given as goal
 
 abbrev pub invariant-loop-l : goal.invariant-loop-l

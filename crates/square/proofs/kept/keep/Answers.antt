@@ -1,6 +1,6 @@
 -- `square::kept::keep` puts line by line. The loop's invariant: the first l lines hold their figures. The measure is how many are left.
 -- Assumes nothing.
-use Prim.Native.Nat.{◌+◌, ◌-◌, ◌≤◌}
+use Prim.Native.Nat.{◌+◌}
 use mathlib.Core.Path.{◌≡◌, refl, sym, ◌∙◌}
 use native.Mathlib.Omega.{arith}
 use borrow.Author.Tests.{lt-ltb, le-ltb}
@@ -10,14 +10,14 @@ use Rattle.trade.specs.Facts.{facts_in}
 use Rattle.trade.specs.Interference.{interference}
 use Rattle.pairs.proofs.SpreadLaws.{zeros}
 use Rattle.figures.proofs.FiguresLaws.{all_heard}
-use Rattle.square.proofs.KeptLaws.{used, Lines, lines_none, lines_more, lines_all, one_more, figures_square, figures_bytes}
+use Rattle.square.proofs.KeptLaws.{lines_none, lines_more, lines_all, one_more, figures_square, figures_bytes}
 use Rattle.square.proofs.kept.keep.Goals as goal
 
 pub hear_above-requires : goal.hear_above-requires
 hear_above-requires c = record {
-      formed = c.requires.0;
-      heard_len = (refl, λ y h. zeros 64 y);
-    }
+  formed = c.requires.0;
+  heard_len = (refl, λ y h. zeros 64 y);
+}
 
 pub loop-l-init : goal.loop-l-init
 loop-l-init c = (omega arith, lines_none _ _ _ c.requires.1 (λ j h. le-ltb j 0 (omega arith)))

@@ -1,16 +1,11 @@
 -- `square::kept::keep` puts line by line. The loop's invariant: the first l lines hold their figures. The measure is how many are left.
 -- Assumes nothing.
-use Prim.Native.Nat.{◌+◌, ◌-◌, ◌≤◌}
-use mathlib.Core.Path.{◌≡◌, refl, sym, ◌∙◌}
-use native.Mathlib.Omega.{arith}
-use borrow.Author.Tests.{lt-ltb, le-ltb}
+use Prim.Native.Nat.{◌-◌, ◌≤◌}
 use lib.Dec.{ltb}
 use Rattle.trade.specs.Limits.{most_flows}
 use Rattle.trade.specs.Facts.{facts_in}
 use Rattle.trade.specs.Interference.{interference}
-use Rattle.pairs.proofs.SpreadLaws.{zeros}
-use Rattle.figures.proofs.FiguresLaws.{all_heard}
-use Rattle.square.proofs.KeptLaws.{used, Lines, lines_none, lines_more, lines_all, one_more, figures_square, figures_bytes}
+use Rattle.square.proofs.KeptLaws.{used, Lines}
 use Rattle.square.proofs.kept.keep.Given as goal
 
 abbrev pub invariant-loop-l : goal.invariant-loop-l

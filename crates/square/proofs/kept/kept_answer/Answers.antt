@@ -1,14 +1,11 @@
 -- `square::kept::kept_answer` looks at line by line. The loop's invariant: no line up to l is wrong. The measure is how many are left.
 -- Assumes nothing.
-use Prim.Native.Nat.{ℕ, ◌+◌, ◌-◌, ◌≤◌, ◌<◌}
+use Prim.Native.Nat.{ℕ, ◌+◌}
 use mathlib.Core.Path.{◌≡◌, refl, sym, ◌∙◌, ap}
-use mathlib.Core.Bool.{false, not}
-use mathlib.Core.List.{List}
+use mathlib.Core.Bool.{not}
 use borrow.Author.Count.{below_more}
-use borrow.Author.Rules.{rules}
 use borrow.Author.Tests.{not-true, not-false}
 use native.Mathlib.Omega.{arith}
-use Rattle.trade.specs.Layout.{sections}
 use Rattle.trade.specs.Kept.{Tabled, wrong_line, code17}
 use Rattle.trade.proofs.Answers.{given_first_at, given_first_none}
 use Rattle.pairs.proofs.SpreadLaws.{zeros}
@@ -24,9 +21,9 @@ own s = table s.args.flows s.args.rows.now s.args.records.now s.args.steps.now s
 
 pub hear_above-requires : goal.hear_above-requires
 hear_above-requires c = record {
-      formed = c.requires.0;
-      heard_len = (refl, λ y h. zeros 64 y);
-    }
+  formed = c.requires.0;
+  heard_len = (refl, λ y h. zeros 64 y);
+}
 
 pub loop-l-init : goal.loop-l-init
 loop-l-init c = (omega arith, λ k h. absurd (omega arith))

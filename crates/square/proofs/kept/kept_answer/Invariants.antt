@@ -1,20 +1,11 @@
 -- `square::kept::kept_answer` looks at line by line. The loop's invariant: no line up to l is wrong. The measure is how many are left.
 -- Assumes nothing.
-use Prim.Native.Nat.{ℕ, ◌+◌, ◌-◌, ◌≤◌, ◌<◌}
-use mathlib.Core.Path.{◌≡◌, refl, sym, ◌∙◌, ap}
-use mathlib.Core.Bool.{false, not}
+use Prim.Native.Nat.{ℕ, ◌-◌, ◌≤◌, ◌<◌}
+use mathlib.Core.Path.{◌≡◌}
+use mathlib.Core.Bool.{false}
 use mathlib.Core.List.{List}
-use borrow.Author.Count.{below_more}
-use borrow.Author.Rules.{rules}
-use borrow.Author.Tests.{not-true, not-false}
-use native.Mathlib.Omega.{arith}
 use Rattle.trade.specs.Layout.{sections}
-use Rattle.trade.specs.Kept.{Tabled, wrong_line, code17}
-use Rattle.trade.proofs.Answers.{given_first_at, given_first_none}
-use Rattle.pairs.proofs.SpreadLaws.{zeros}
-use Rattle.sections.proofs.FormedLaws.{formed_less}
-use Rattle.figures.proofs.FiguresLaws.{all_heard}
-use Rattle.square.proofs.KeptLaws.{wrong_line_lem}
+use Rattle.trade.specs.Kept.{Tabled, wrong_line}
 use Rattle.square.proofs.kept.kept_answer.Given as goal
 
 -- the table

@@ -1,13 +1,11 @@
 -- `square::kept::line_from` reads figure by figure. The loop's invariant: the figures up to h are read. The measure is how many are left.
 -- Assumes nothing.
-use Prim.Native.Nat.{ℕ, ◌+◌, ◌-◌, ◌*◌, ◌≤◌, ◌<◌}
+use Prim.Native.Nat.{ℕ, ◌+◌, ◌*◌, ◌<◌}
 use mathlib.Core.Path.{◌≡◌, sym}
-use mathlib.Core.List.{List}
 use native.Mathlib.Omega.{arith}
 use Rattle.trade.specs.Limits.{most_flows}
 use Rattle.trade.specs.Kept.{figure_in}
-use Rattle.square.specs.Carried.{shifted}
-use Rattle.figures.proofs.Padded.{filled, filled_none, filled_more}
+use Rattle.figures.proofs.Padded.{filled_none, filled_more}
 use Rattle.square.proofs.KeptLaws.{shifted_most}
 use Rattle.square.proofs.kept.line_from.Goals as goal
 use Rattle.square.proofs.kept.line_from.Invariants.{from}

@@ -1,10 +1,9 @@
 -- `square::kept::put_line` puts figure by figure. The loop's invariant: the figures up to h are put. The measure is how many are left.
 -- Assumes nothing.
-use Prim.Native.Nat.{◌-◌, ◌≤◌}
 use mathlib.Core.Path.{◌≡◌}
 use native.Mathlib.Omega.{arith}
 use Rattle.trade.specs.Limits.{most_flows}
-use Rattle.square.proofs.KeptLaws.{PutTo, put_none, put_more, put_all}
+use Rattle.square.proofs.KeptLaws.{put_none, put_more, put_all}
 use Rattle.square.proofs.kept.put_line.Goals as goal
 use Rattle.square.proofs.kept.put_line.Goals.{After-figures-1}
 

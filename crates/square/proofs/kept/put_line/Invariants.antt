@@ -1,10 +1,8 @@
 -- `square::kept::put_line` puts figure by figure. The loop's invariant: the figures up to h are put. The measure is how many are left.
 -- Assumes nothing.
 use Prim.Native.Nat.{◌-◌, ◌≤◌}
-use mathlib.Core.Path.{◌≡◌}
-use native.Mathlib.Omega.{arith}
 use Rattle.trade.specs.Limits.{most_flows}
-use Rattle.square.proofs.KeptLaws.{PutTo, put_none, put_more, put_all}
+use Rattle.square.proofs.KeptLaws.{PutTo}
 use Rattle.square.proofs.kept.put_line.Given as goal
 
 abbrev pub invariant-loop-h : goal.invariant-loop-h

@@ -1,6 +1,5 @@
 -- `square::kept::shift` goes by the cut. Assumes nothing.
 use mathlib.Core.Path.{sym}
-use borrow.Author.Rules.{rules}
 use Rattle.square.proofs.KeptLaws.{shifted_below, shifted_past}
 use Rattle.square.proofs.kept.shift.Goals as goal
 

@@ -8,7 +8,6 @@ use Rattle.trade.proofs.Answers.{first_of_passed}
 use Rattle.bounds.specs.Bounds.{refused_by}
 use Rattle.table.specs.Table.{ChecksKept}
 use Rattle.table.proofs.CheckedLaws.{passed_formed, formed_timed, records_alone, checks_refused, checks_bounded}
-use borrow.Author.Rules.{rules}
 use Rattle.table.proofs.checked.check_parts.Goals as goal
 use Rattle.table.proofs.checked.check_parts.Goals.{Start}
 

@@ -9,7 +9,6 @@ use Rattle.book.specs.declared.parts.Opened.{Opened}
 use Rattle.book.proofs.OpenBookLaws.{done_lies, open_frame, book_formed, rows_fit, records_fit, steps_fit}
 use Rattle.table.specs.Table.{table_with}
 use Rattle.table.proofs.ReadLaws.{read_refused, read_done}
-use borrow.Author.Rules.{rules}
 use Rattle.table.proofs.table.read.Goals as goal
 use Rattle.table.proofs.table.read.Goals.{Else-answer-ne0}
 

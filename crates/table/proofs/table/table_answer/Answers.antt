@@ -10,7 +10,7 @@ use Rattle.trade.specs.Limits.{most_nodes, most_flows, step_bytes}
 use Rattle.trade.specs.First.{sum_to}
 use Rattle.trade.specs.Layout.{sections, field}
 use Rattle.trade.specs.Facts.{facts_of, first_step, all_steps}
-use Rattle.trade.specs.Answers.{done, refused, given_first, first_of, no_number}
+use Rattle.trade.specs.Answers.{given_first, first_of, no_number}
 use Rattle.trade.specs.Codes.{outside, code3, code5, code6, code8}
 use Rattle.trade.specs.Calls.{table_rules}
 use Rattle.trade.specs.declared.answer.Answer.{Answer}
@@ -19,7 +19,6 @@ use Rattle.trade.proofs.Answers.{first_of_refuse, first_of_pass, first_of_last, 
 use Rattle.trade.proofs.Valid.{plans_most}
 use Rattle.book.proofs.PartsLaws.{inside}
 use Rattle.sections.proofs.OwnSections.{code5_rows, code6_records, code8_steps}
-use borrow.Author.Rules.{rules}
 use Rattle.table.proofs.table.table_answer.Goals as goal
 use Rattle.table.proofs.table.table_answer.Goals.{After-records_answer-named, After-rows_answer-rowed, Else-is_miscounted, Else-named-ne0, Else-rowed-ne0}
 

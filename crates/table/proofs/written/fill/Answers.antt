@@ -8,7 +8,6 @@ use lib.Seq.{length-take-le}
 use Rattle.trade.specs.Layout.{sections}
 use Rattle.numbers.specs.Pasting.{pasted_at}
 use Rattle.table.proofs.WrittenLaws.{book_room, put_in_turn}
-use borrow.Author.Rules.{rules}
 use Rattle.table.proofs.written.fill.Goals as goal
 
 pub slice_bounds-put_at-end : goal.slice_bounds-put_at-end

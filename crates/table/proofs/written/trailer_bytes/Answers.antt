@@ -1,5 +1,4 @@
 -- `table::written::trailer_bytes` meets its contract: three words, and four bytes behind them. Assumes nothing.
-use borrow.Author.Rules.{rules}
 use Rattle.trade.specs.Bytes.{two_bytes}
 use Rattle.numbers.specs.Pasting.{pasted_at}
 use Rattle.table.specs.Written.{trailer_with}

@@ -11,7 +11,6 @@ use Rattle.trade.specs.Calls.{table_rules}
 use Rattle.trade.specs.declared.answer.Answer.{Answer}
 use Rattle.table.specs.Written.{Room}
 use Rattle.table.proofs.WrittenLaws.{Sized, sized, book_length, write_refused, write_short, write_done}
-use borrow.Author.Rules.{rules}
 use Rattle.table.proofs.written.write_sections.Goals as goal
 use Rattle.table.proofs.written.write_sections.Goals.{After-steps_before-all, Else-tested-ne0}
 

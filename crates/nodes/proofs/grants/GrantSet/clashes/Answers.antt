@@ -1,6 +1,5 @@
 -- `nodes::grants::GrantSet::clashes` is the tests of the definition. Assumes nothing.
 use Rattle.nodes.specs.Grants.{clashes_with, Holds}
-use borrow.Author.Rules.{rules}
 use Rattle.nodes.proofs.grants.GrantSet.clashes.Goals as goal
 
 pub returns : goal.returns

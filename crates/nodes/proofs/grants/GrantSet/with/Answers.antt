@@ -2,7 +2,6 @@
 use native.Mathlib.Omega.{arith}
 use Rattle.nodes.specs.Grants.{one_more}
 use Rattle.nodes.proofs.GrantsLaws.{holds_more}
-use borrow.Author.Rules.{rules}
 use Rattle.nodes.proofs.grants.GrantSet.with.Goals as goal
 
 pub returns : goal.returns

@@ -3,7 +3,8 @@ use Prim.Native.Nat.{ℕ}
 use mathlib.Core.Path.{refl}
 use mathlib.Core.List.{List, []}
 use base.Fml.{Lft}
-use denote.Ref.{Bor}
+use denote.Bor.{Bor}
+use denote.MutBor.{MutBor}
 use Rattle.trade.specs.Layout.{Sections}
 use Rattle.trade.specs.Kept.{Tabled}
 use Rattle.trade.specs.Answers.{packed_of}
@@ -14,9 +15,12 @@ use Rattle.table.specs.declared.table.Table.{Table}
 use Rattle.promise.specs.Demands.{Answers}
 use Rattle.shipped.specs.Calls.{Read, Check, CheckTable, Write, Add, Remove, Start, Advance, Why, SlotCheck, SlotWhy, shipped, for_c, with_run}
 
--- a list that is lent, and a table of counts and sections
+-- a list that is lent to be read, one that is lent to be written, and a table of counts and sections
 lent : List ℕ → Bor (List ℕ)
 lent b = record { ref_ptr = (0, 0); now = b }
+
+handed : List ℕ → MutBor (List ℕ)
+handed b = record { ref_ptr = (0, 0); ghost_name = 0; now = b }
 
 held : Tabled → Table
 held t =
@@ -44,9 +48,9 @@ module _ (κ : Lft) where
       (tt, (held t, tt), record { answer = (check_kept_of t).answer; bounds = (check_kept_of t).bounds }, (held t, tt), record { answer = refl; bounds = refl }, refl, refl)
 
   write_given : (w : Writing) → Write w (write_of w)
-  unfolding lent held figured
+  unfolding handed held figured
   write_given w =
-      ((κ, tt), (held (figured w.table), (lent w.buffer, tt)), (write_of w).answer, (held (figured w.table), (lent (write_of w).buffer, tt)), record { answer = refl; buffer = refl }, refl, refl)
+      ((κ, tt), (held (figured w.table), (handed w.buffer, tt)), (write_of w).answer, (held (figured w.table), (handed (write_of w).buffer, tt)), record { answer = refl; buffer = refl }, refl, refl)
 
   add_given : (a : Adding) → Add a (add_of a)
   unfolding held
@@ -59,14 +63,14 @@ module _ (κ : Lft) where
       (tt, (held a.table, (a.place, tt)), record { answer = (remove_of a).answer; table = held (remove_of a).table }, (held a.table, (a.place, tt)), record { answer = refl; table = refl }, refl, refl)
 
   start_given : (i : Starting) → Start i (start_of i)
-  unfolding lent
+  unfolding lent handed
   start_given i =
-      ((κ, (κ, tt)), (lent i.book, (lent i.area, tt)), (start_of i).answer, (lent i.book, (lent (start_of i).area, tt)), record { answer = refl; area = refl }, refl, refl)
+      ((κ, (κ, tt)), (lent i.book, (handed i.area, tt)), (start_of i).answer, (lent i.book, (handed (start_of i).area, tt)), record { answer = refl; area = refl }, refl, refl)
 
   advance_given : (i : Advancing) → Advance i (advance_of i)
-  unfolding lent
+  unfolding lent handed
   advance_given i =
-      ((κ, (κ, (κ, tt))), (lent i.book, (lent i.area, (lent i.grants, tt))), (advance_of i).answer, (lent i.book, (lent (advance_of i).area, (lent (advance_of i).grants, tt))), record { answer = refl; area = refl; grants = refl }, refl, refl)
+      ((κ, (κ, (κ, tt))), (lent i.book, (handed i.area, (handed i.grants, tt))), (advance_of i).answer, (lent i.book, (handed (advance_of i).area, (handed (advance_of i).grants, tt))), record { answer = refl; area = refl; grants = refl }, refl, refl)
 
   why_given : (i : Asking) → Why i (ask_of i)
   unfolding lent
@@ -108,10 +112,10 @@ module _ (κ : Lft) where
       (_, ((κ, (κ, tt)), (lent i.book, (lent i.area, (i.place, tt))), packed_of (answer_of (ask_of i)), (lent i.book, (lent i.area, (i.place, tt))), record { answer = refl }, refl, refl))
 
   pub for_c_answers : Answers for_c
-  unfolding lent
+  unfolding lent handed
   for_c_answers =
       answers_with (λ b. (_, (packed_of (check_of b).answer, slot_check_given b, refl)))
       (λ i.
-      (_, ((κ, (κ, tt)), (lent i.book, (lent i.area, tt)), packed_of (start_of i).answer, (lent i.book, (lent (start_of i).area, tt)), record { answer = refl; area = refl }, refl, refl)))
+      (_, ((κ, (κ, tt)), (lent i.book, (handed i.area, tt)), packed_of (start_of i).answer, (lent i.book, (handed (start_of i).area, tt)), record { answer = refl; area = refl }, refl, refl)))
       (λ i.
-      (_, ((κ, (κ, (κ, tt))), (lent i.book, (lent i.area, (lent i.grants, tt))), packed_of (advance_of i).answer, (lent i.book, (lent (advance_of i).area, (lent (advance_of i).grants, tt))), record { answer = refl; area = refl; grants = refl }, refl, refl)))
+      (_, ((κ, (κ, (κ, tt))), (lent i.book, (handed i.area, (handed i.grants, tt))), packed_of (advance_of i).answer, (lent i.book, (handed (advance_of i).area, (handed (advance_of i).grants, tt))), record { answer = refl; area = refl; grants = refl }, refl, refl)))

@@ -4,7 +4,7 @@
  *
  * Each call answers one number, code * 65536 + number. Code 0 is success.
  * No call keeps a pointer, allocates memory or has state of its own: all it
- * knows is in the slices that it is lent. slot_why takes about 0.9 KB of stack.
+ * knows is in the slices that it is lent. slot_why takes about 1 KB of stack.
  *
  * It is an archive of its own, libmiddleware.a, which does not need the radio
  * stack's, libradio.a; a program may link both. slot_planner.h has the codes,

@@ -15,7 +15,7 @@ import subprocess
 import sys
 import tempfile
 
-SNAKE = "/opt/rattle/port/notes/2026-11-18-names-are-in-snake-case/snake.py"
+SNAKE = "port/notes/2026-11-18-names-are-in-snake-case/snake.py"
 WORD = re.compile(r"[^\s(){}\[\];,.\"|◌@«»]+")
 USE = re.compile(r"\buse ([^\s;{]+?)\.?\{([^}]*)\}")
 DECLARED = re.compile(r"^ *(?:(?:abbrev|unfoldable|opaque|pub|pattern) +)*([^\s(){}\[\];,.\"|]+)(?: \{[^{}\n]*\})* :(?= |$)", re.M)
@@ -91,7 +91,8 @@ def turn(rows, paths):
     with tempfile.NamedTemporaryFile("w", suffix=".tsv", encoding="utf-8", delete=False) as f:
         f.write("".join(f"{a}\t{b}\n" for a, b in sorted(rows.items())))
     try:
-        return subprocess.run([sys.executable, SNAKE, "--table", f.name, "--only", "antt,rt,md", *paths]).returncode
+        kit = os.path.dirname(subprocess.run(["rt", "doc"], stdout=subprocess.PIPE, text=True, check=True).stdout.strip())
+        return subprocess.run([sys.executable, os.path.join(kit, SNAKE), "--table", f.name, "--only", "antt,rt,md", *paths]).returncode
     finally:
         os.unlink(f.name)
 

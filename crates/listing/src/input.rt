@@ -4,7 +4,8 @@ ghost use Rattle.std.specs.Io.{ReadsAtMost};
 use std::io;
 use std::io::Read;
 
-// Reads until the buffer is full or the input ends, and returns how many bytes it put at the front of the buffer.
+// Reads until the buffer is full or the input ends, and returns how many bytes it put at the front of the buffer. Where the input can't be
+// read, what has been put there by then stays.
 pub fn read_full(reader: &mut impl Read, buffer: &mut [u8]) -> io::Result<usize>
     ensures { ReadsAtMost result buffer.new }
 {

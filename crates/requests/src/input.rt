@@ -1,5 +1,5 @@
 // What a request hands over, taken from standard input. Where the input ends too soon, `came` is false.
-ghost use Rattle.std.specs.Prelude.{◌≤◌, length, IfOk};
+ghost use Rattle.std.specs.Prelude.{◌≡◌, ◌≤◌, take, length, IfOk};
 
 use listing::input::read_full;
 use numbers::numbers::{WORDS, long_at, word_at};
@@ -49,9 +49,9 @@ pub(crate) fn next_call(reader: &mut impl Read) -> io::Result<u8> {
     Ok(call[0])
 }
 
-// A slice or a buffer, put at the front of a room that takes the longest.
+// A slice or a buffer, put at the front of a room that takes the longest. Where the input can't be read, what has been put there by then stays.
 pub(crate) fn next_part(reader: &mut impl Read, room: &mut [u8]) -> io::Result<Part>
-    ensures { IfOk result (λ part. part.len ≤ length room.new) }
+    ensures { IfOk result (λ part. (part.len ≤ length room.new) × (part.len ≡ length (take part.len room.new))) }
 {
     let mut word = [0u8; 2];
     let said = fills(reader, &mut word)?;

@@ -1,4 +1,5 @@
 // What the programs read.
+ghost use Rattle.std.specs.Prelude.{◌≡◌, length};
 ghost use Rattle.std.specs.Io.{ReadsAtMost};
 
 use std::io;
@@ -7,7 +8,8 @@ use std::io::Read;
 // Reads until the buffer is full or the input ends, and returns how many bytes it put at the front of the buffer. Where the input can't be
 // read, what has been put there by then stays.
 pub fn read_full(reader: &mut impl Read, buffer: &mut [u8]) -> io::Result<usize>
-    ensures { ReadsAtMost result buffer.new }
+    ensures counts { ReadsAtMost result buffer.new }
+    ensures buffer_kept { length buffer.new ≡ length buffer.old }
 {
     let mut done = 0;
     while done < buffer.len() {

@@ -51,7 +51,8 @@ pub(crate) fn next_call(reader: &mut impl Read) -> io::Result<u8> {
 
 // A slice or a buffer, put at the front of a room that takes the longest. Where the input can't be read, what has been put there by then stays.
 pub(crate) fn next_part(reader: &mut impl Read, room: &mut [u8]) -> io::Result<Part>
-    ensures { IfOk result (λ part. (part.len ≤ length room.new) × (part.len ≡ length (take part.len room.new))) }
+    ensures counts { IfOk result (λ part. (part.len ≤ length room.new) × (part.len ≡ length (take part.len room.new))) }
+    ensures room_kept { length room.new ≡ length room.old }
 {
     let mut word = [0u8; 2];
     let said = fills(reader, &mut word)?;

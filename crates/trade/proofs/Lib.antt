@@ -9,6 +9,7 @@ pub mod SlotLaws
 pub mod Why
 pub mod Order
 pub mod Answers
+pub mod Refusals
 pub mod SlotCodes
 pub mod Valid
 pub mod Alike

@@ -10,6 +10,7 @@ pub mod Table
 -- Codes, in the order they are tested; 9 stands with the response bound, and 10 to 12 behind the slot.
 pub mod Answers
 pub mod Codes
+pub mod Refusals
 -- Conflict and interference. The response bound. One slot.
 pub mod Conflict
 pub mod Interference

@@ -3,8 +3,10 @@ ghost use Rattle.std.specs.Prelude.{◌≡◌, ◌<◌};
 ghost use Rattle.trade.specs.Limits.{packing};
 ghost use Rattle.trade.specs.Answers.{done, refused, packed_of};
 
+use std::fmt;
+
 // A code, 0 where the call is done, and the number that goes with it.
-#[derive(Clone, Copy)]
+#[derive(Clone, Copy, Debug, PartialEq, Eq)]
 pub struct Answer {
     pub code: u16,
     pub number: u64,
@@ -34,5 +36,12 @@ impl Answer {
         ensures { result ≡ packed_of self }
     {
         (self.code as u32) * Answer::PACKING + (self.number as u32)
+    }
+}
+
+// Code and number, with a space between them, as the programs print them.
+impl fmt::Display for Answer {
+    fn fmt<W: fmt::Write>(&self, f: &mut fmt::Formatter<W>) -> fmt::Result {
+        write!(f, "{} {}", self.code, self.number)
     }
 }

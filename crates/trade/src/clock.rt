@@ -1,15 +1,15 @@
 // The three counters. Each is a type of its own, so that one in another's position stops the build.
 
 // A slot, counted from 0.
-#[derive(Clone, Copy)]
+#[derive(Clone, Copy, Debug, PartialEq, Eq, PartialOrd, Ord)]
 pub struct Slot(pub u32);
 
 // An instance of a flow, counted from 0.
-#[derive(Clone, Copy)]
+#[derive(Clone, Copy, Debug, PartialEq, Eq, PartialOrd, Ord)]
 pub struct Instance(pub u32);
 
 // A step of a plan, counted from 0, or a count of steps done.
-#[derive(Clone, Copy)]
+#[derive(Clone, Copy, Debug, PartialEq, Eq, PartialOrd, Ord)]
 pub struct Step(pub u8);
 
 // The slot clock.

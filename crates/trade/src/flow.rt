@@ -1,7 +1,7 @@
 // Flows, and the plans that they follow.
 
 // A flow as its record in a book has it: its id, the slot of its first release, its period, its deadline and the length of its plan.
-#[derive(Clone, Copy)]
+#[derive(Clone, Copy, Debug, PartialEq, Eq)]
 pub struct Flow {
     pub id: u16,
     pub phase: u16,

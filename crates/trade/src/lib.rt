@@ -7,6 +7,7 @@ pub mod flow;
 pub mod layout;
 pub mod limits;
 pub mod node;
+pub mod refusal;
 pub mod state;
 pub mod told;
 
@@ -15,5 +16,6 @@ pub use clock::{Clock, Instance, Slot, Step};
 pub use flow::{Flow, Plan};
 pub use layout::Book;
 pub use node::{Node, Transmission};
+pub use refusal::Refusal;
 pub use state::{Grant, Progress, Run};
 pub use told::Told;

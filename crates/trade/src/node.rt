@@ -1,7 +1,7 @@
 // Nodes, and transmissions between them.
 
 // A node by its number, counted from 0.
-#[derive(Clone, Copy)]
+#[derive(Clone, Copy, Debug, PartialEq, Eq, PartialOrd, Ord)]
 pub struct Node(pub u8);
 
 impl Node {
@@ -12,7 +12,7 @@ impl Node {
 }
 
 // A packet sent from one node to another.
-#[derive(Clone, Copy)]
+#[derive(Clone, Copy, Debug, PartialEq, Eq)]
 pub struct Transmission {
     pub sender: Node,
     pub receiver: Node,

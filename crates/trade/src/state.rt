@@ -7,7 +7,7 @@ use crate::flow::Flow;
 use crate::node::Transmission;
 
 // How far a flow is: the steps done by its latest instance.
-#[derive(Clone, Copy)]
+#[derive(Clone, Copy, Debug, PartialEq, Eq)]
 pub struct Progress {
     pub done: Step,
 }
@@ -46,7 +46,7 @@ impl Run {
 }
 
 // Leave for one step of one instance of a flow to be sent.
-#[derive(Clone, Copy)]
+#[derive(Clone, Copy, Debug, PartialEq, Eq)]
 pub struct Grant {
     pub id: u16,
     pub instance: Instance,

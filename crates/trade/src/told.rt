@@ -5,7 +5,7 @@ ghost use Rattle.trade.specs.Why.{answer_of};
 use crate::answer::Answer;
 
 // Why a flow is silent in the slot, or that it is not; or that the call is refused. A flow that waits does so on the flow at a place.
-#[derive(Clone, Copy)]
+#[derive(Clone, Copy, Debug, PartialEq, Eq)]
 pub enum Told {
     Refused(Answer),
     NotReleased,

@@ -1,6 +1,7 @@
 -- Each public function's contract leaves one result, and one content of what it was lent. The contracts are those that the check
 -- reads in the code, `Post`. Assumes nothing.
 use Rattle.trade.proofs.Unique.{OneResult, one_result}
+use Rattle.trade.proofs.Refusals.{one_test}
 use Rattle.sections.proofs.records.record_at.Kinds as record_at_kinds
 use Rattle.sections.proofs.records.record_at.Reads as record_at
 use Rattle.sections.proofs.records.records_answer.Kinds as records_answer_kinds
@@ -18,13 +19,13 @@ pub record_at_unique : OneResult 1 record_at_kinds.ps record_at_kinds.r record_a
 record_at_unique κs a r r' s s' p q = one_result p q
 
 pub records_answer_unique : OneResult 1 records_answer_kinds.ps records_answer_kinds.r records_answer.Post
-records_answer_unique κs a r r' s s' p q = one_result p q
+records_answer_unique κs a r r' s s' p q = one_test r r' (one_result p q)
 
 pub rows_answer_unique : OneResult 1 rows_answer_kinds.ps rows_answer_kinds.r rows_answer.Post
-rows_answer_unique κs a r r' s s' p q = one_result p q
+rows_answer_unique κs a r r' s s' p q = one_test r r' (one_result p q)
 
 pub steps_answer_unique : OneResult 2 steps_answer_kinds.ps steps_answer_kinds.r steps_answer.Post
-steps_answer_unique κs a r r' s s' p q = one_result p q
+steps_answer_unique κs a r r' s s' p q = one_test r r' (one_result p q)
 
 pub len_at_unique : OneResult 1 len_at_kinds.ps len_at_kinds.r len_at.Post
 len_at_unique κs a r r' s s' p q = one_result p.0 q.0

@@ -47,7 +47,7 @@ fn is_off(steps: &[u8], k: usize) -> bool
 fn counted(holds: bool) -> u16
     ensures { (result ≡ one holds) × (result ≤ 1) }
 {
-    if holds { 1 } else { 0 }
+    u16::from(holds)
 }
 
 // How many of the first steps are off. The first of all follows on from none.
@@ -57,10 +57,8 @@ fn count_off(steps: &[u8], all: usize) -> u16
 {
     let first = both_at(steps, 0);
     let mut count = counted(first % 256 == first / 256);
-    let mut k = 1;
-    while k < all {
+    for k in 1..all {
         count += counted(is_off(steps, k));
-        k += 1;
     }
     count
 }
@@ -70,14 +68,9 @@ fn highest(bytes: &[u8], count: usize) -> u8
     requires { count ≤ length bytes.now }
     ensures { (k : ℕ) → k < count → byte bytes.now k ≤ result }
 {
-    let mut most = 0;
-    let mut k = 0;
-    while k < count {
-        let b = bytes[k];
-        if most < b {
-            most = b;
-        }
-        k += 1;
+    let mut most: u8 = 0;
+    for b in &bytes[..count] {
+        most = most.max(*b);
     }
     most
 }
@@ -107,12 +100,10 @@ fn count_anew(flows: usize, records: &[u8], steps: &[u8]) -> Begun
 {
     let mut all = 0;
     let mut anew = 0;
-    let mut i = 0;
-    while i < flows {
+    for i in 0..flows {
         let len = len_at(records, i);
         anew += counted(starts_anew(steps, all, len));
         all += len;
-        i += 1;
     }
     Begun { all, anew }
 }

@@ -7,9 +7,10 @@ ghost use Rattle.trade.specs.Facts.{facts_in, flow_in};
 ghost use Rattle.sections.specs.Records.{misfit};
 ghost use Rattle.trade.specs.Answers.{done};
 ghost use Rattle.trade.specs.Codes.{outside, bad_record, code6};
+ghost use Rattle.trade.specs.Refusals.{tested};
 
 use numbers::numbers::word_at;
-use trade::{Answer, Flow, Plan};
+use trade::{Flow, Plan, Refusal};
 
 // The flow that the ten bytes of a record say.
 fn flow_of(part: &[u8]) -> Flow
@@ -55,12 +56,10 @@ fn id_before(records: &[u8], i: usize) -> bool
     ensures { result ≡ some (λ j. eqb (field records.now j 0) (field records.now i 0)) i }
 {
     let id = id_at(records, i);
-    let mut j = 0;
-    while j < i {
+    for j in 0..i {
         if id_at(records, j) == id {
             return true;
         }
-        j += 1;
     }
     false
 }
@@ -106,40 +105,36 @@ fn records_in_doubt(flows: usize, records: &[u8]) -> bool
 {
     let mut met = [0u8; 256];
     let mut bad = false;
-    let mut i = 0;
-    while i < flows {
+    for i in 0..flows {
         let low = (id_at(records, i) % 256) as usize;
-        bad = bad | is_bad_record(records, i, met[low] == 1);
+        bad |= is_bad_record(records, i, met[low] == 1);
         met[low] = 1;
-        i += 1;
     }
     bad
 }
 
 // Code 6 by a search through the records.
-fn searched_records(flows: usize, records: &[u8]) -> Answer
+fn searched_records(flows: usize, records: &[u8]) -> Result<(), Refusal>
     requires { record_bytes * flows ≤ length records.now }
-    ensures { result ≡ code6 (facts_in 0 flows [] records.now []) }
+    ensures { tested result ≡ code6 (facts_in 0 flows [] records.now []) }
 {
-    let mut i = 0;
-    while i < flows {
+    for i in 0..flows {
         if is_bad_record(records, i, true) {
-            return Answer::refused(6, i as u64);
+            return Err(Refusal::BadRecord(i));
         }
-        i += 1;
     }
-    Answer::done(0)
+    Ok(())
 }
 
 // Code 6, at the first bad record. They are searched only in doubt.
-pub fn records_answer(flows: usize, records: &[u8]) -> Answer
+pub fn records_answer(flows: usize, records: &[u8]) -> Result<(), Refusal>
     requires { record_bytes * flows ≤ length records.now }
-    ensures { result ≡ code6 (facts_in 0 flows [] records.now []) }
+    ensures { tested result ≡ code6 (facts_in 0 flows [] records.now []) }
 {
     if records_in_doubt(flows, records) {
         return searched_records(flows, records);
     }
-    Answer::done(0)
+    Ok(())
 }
 
 // The length of the plan at a place, by its record.
@@ -156,10 +151,8 @@ pub fn steps_before(records: &[u8], flows: usize) -> usize
     ensures { (result ≡ sum_to (λ i. field records.now i 4) flows) × (result ≤ most_id * flows) }
 {
     let mut sum = 0;
-    let mut i = 0;
-    while i < flows {
+    for i in 0..flows {
         sum += len_at(records, i);
-        i += 1;
     }
     sum
 }

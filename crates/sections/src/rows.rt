@@ -3,9 +3,10 @@ ghost use Rattle.std.specs.Prelude.{◌≡◌, not, [], ◌*◌, ◌/◌, ◌^�
 ghost use Rattle.trade.specs.Limits.{row_bytes, most_nodes};
 ghost use Rattle.trade.specs.Facts.{facts_in};
 ghost use Rattle.trade.specs.Codes.{bad_row, code5};
+ghost use Rattle.trade.specs.Refusals.{tested};
 
 use nodes::mask::row_at;
-use trade::Answer;
+use trade::Refusal;
 
 // Whether a set has a node at or above n. In two shifts, each by less than the 64 bits of a set.
 fn has_above(nodes: usize, set: u64) -> bool
@@ -25,16 +26,14 @@ fn is_bad_row(nodes: usize, rows: &[u8], x: usize) -> bool
 }
 
 // Code 5, at the first bad row.
-pub fn rows_answer(nodes: usize, rows: &[u8]) -> Answer
+pub fn rows_answer(nodes: usize, rows: &[u8]) -> Result<(), Refusal>
     requires { (nodes ≤ most_nodes) × (row_bytes * nodes ≤ length rows.now) }
-    ensures { result ≡ code5 (facts_in nodes 0 rows.now [] []) }
+    ensures { tested result ≡ code5 (facts_in nodes 0 rows.now [] []) }
 {
-    let mut x = 0;
-    while x < nodes {
+    for x in 0..nodes {
         if is_bad_row(nodes, rows, x) {
-            return Answer::refused(5, x as u64);
+            return Err(Refusal::BadRow(x));
         }
-        x += 1;
     }
-    Answer::done(0)
+    Ok(())
 }

@@ -5,12 +5,13 @@ ghost use Rattle.trade.specs.First.{first, sum_to};
 ghost use Rattle.trade.specs.Layout.{field};
 ghost use Rattle.trade.specs.Facts.{facts_in};
 ghost use Rattle.trade.specs.Codes.{code8};
+ghost use Rattle.trade.specs.Refusals.{tested};
 ghost use Rattle.sections.specs.Steps.{misplaced, unjoined, bad_in_plan};
 
 use crate::at_once::steps_in_doubt;
 use crate::records::len_at;
 use plans::steps::step_at;
-use trade::{Answer, Plan, Transmission};
+use trade::{Plan, Refusal, Transmission};
 
 // Whether a step's sender or receiver is at or above n, or the two are equal.
 fn is_misplaced(nodes: usize, t: Transmission) -> bool
@@ -25,8 +26,8 @@ fn is_misplaced(nodes: usize, t: Transmission) -> bool
 fn is_unjoined(t: Transmission, before: Transmission) -> bool
     ensures { result ≡ unjoined t before }
 {
-    let repeats = (t.sender.0 == before.sender.0) & (t.receiver.0 == before.receiver.0);
-    let goes_on = t.sender.0 == before.receiver.0;
+    let repeats = t == before;
+    let goes_on = t.sender == before.receiver;
     !(repeats | goes_on)
 }
 
@@ -47,45 +48,41 @@ fn first_bad_step(nodes: usize, plan: &[u8], len: usize) -> usize
     requires { step_bytes * len ≤ length plan.now }
     ensures { result ≡ first (bad_in_plan nodes plan.now) len }
 {
-    let mut j = 0;
-    while j < len {
+    for j in 0..len {
         if is_bad_step(nodes, plan, j) {
             return j;
         }
-        j += 1;
     }
-    j
+    len
 }
 
 // Code 8 by a search through the plans, one after the other.
-fn searched_steps(nodes: usize, flows: usize, records: &[u8], steps: &[u8]) -> Answer
+fn searched_steps(nodes: usize, flows: usize, records: &[u8], steps: &[u8]) -> Result<(), Refusal>
     requires flows_le_most_flows { (flows ≤ most_flows) × (record_bytes * flows ≤ length records.now) }
     requires flows_in_bounds { step_bytes * sum_to (λ i. field records.now i 4) flows ≤ length steps.now }
-    ensures { result ≡ code8 (facts_in nodes flows [] records.now steps.now) }
+    ensures { tested result ≡ code8 (facts_in nodes flows [] records.now steps.now) }
 {
     let mut start = 0;
-    let mut i = 0;
-    while i < flows {
+    for i in 0..flows {
         let len = len_at(records, i);
         let at = Plan::STEP_BYTES * start;
         let bad = first_bad_step(nodes, &steps[at..], len);
         if bad < len {
-            return Answer::refused(8, (start + bad) as u64);
+            return Err(Refusal::BadStep(start + bad));
         }
         start += len;
-        i += 1;
     }
-    Answer::done(0)
+    Ok(())
 }
 
 // Code 8, at the first bad step, counted over all plans. They are searched only in doubt.
-pub fn steps_answer(nodes: usize, flows: usize, records: &[u8], steps: &[u8]) -> Answer
+pub fn steps_answer(nodes: usize, flows: usize, records: &[u8], steps: &[u8]) -> Result<(), Refusal>
     requires flows_le_most_flows { (flows ≤ most_flows) × (record_bytes * flows ≤ length records.now) }
     requires flows_in_bounds { step_bytes * sum_to (λ i. field records.now i 4) flows ≤ length steps.now }
-    ensures { result ≡ code8 (facts_in nodes flows [] records.now steps.now) }
+    ensures { tested result ≡ code8 (facts_in nodes flows [] records.now steps.now) }
 {
     if steps_in_doubt(nodes, flows, records, steps) {
         return searched_steps(nodes, flows, records, steps);
     }
-    Answer::done(0)
+    Ok(())
 }

@@ -1,13 +1,16 @@
--- `sections::at_once::counted` meets its contract, by either case. Assumes nothing.
-use mathlib.Core.Path.{refl}
+-- `sections::at_once::counted` meets its contract: a bool as a number is 1 where it holds and else 0. Assumes nothing.
+use Prim.Native.Nat.{ℕ, ◌≤◌}
+use mathlib.Core.Path.{◌≡◌, refl}
+use mathlib.Core.Bool.{Bool, true, false}
 use native.Mathlib.Omega.{arith}
+use mir.Val.{bool_byte}
 use Rattle.trade.specs.Interference.{one}
 use Rattle.sections.proofs.at_once.counted.Goals as goal
 
-pub returns-then-holds : goal.returns-then-holds
+counting : (b : Bool) → (bool_byte b ≡ one b) × (bool_byte b ≤ 1)
 unfolding one
-returns-then-holds c = (rw c.if-holds.true refl, omega arith)
+counting true = (refl, omega arith)
+counting false = (refl, omega arith)
 
-pub returns-else-holds : goal.returns-else-holds
-unfolding one
-returns-else-holds c = (rw c.if-holds.false refl, omega arith)
+pub returns : goal.returns
+returns c = rw c.from.ensures (counting c.args.holds)

@@ -1,10 +1,7 @@
--- `sections::at_once::highest` meets its contract: no byte before k is above the highest so far. Assumes nothing.
-use Prim.Native.Nat.{ℕ, ◌≤◌, ◌<◌, ◌-◌}
-use Rattle.trade.specs.Bytes.{byte}
+-- `sections::at_once::highest` meets its contract: none of the bytes before the index is above the most so far. Assumes nothing.
+use Prim.Native.Nat.{ℕ, ◌≤◌, ◌<◌}
+use lib.ListN.{get_or}
 use Rattle.sections.proofs.at_once.highest.Given as goal
 
-abbrev pub invariant-loop-k : goal.invariant-loop-k
-invariant-loop-k l = (l.k ≤ l.count) × ((j : ℕ) → j < l.k → byte l.bytes j ≤ l.most)
-
-abbrev pub decreases-loop-k : goal.decreases-loop-k
-decreases-loop-k l = l.count - l.k
+abbrev pub invariant-loop-b : goal.invariant-loop-b
+invariant-loop-b l = (k : ℕ) → k < l.b-index → get_or l.bytes k 0 ≤ l.most

@@ -4,4 +4,4 @@ use mathlib.Core.Path.{◌∙◌, sym}
 use Rattle.sections.proofs.records.records_answer.Goals as goal
 
 pub returns : goal.returns
-returns c = c.done.ensures ∙ sym (c.records_in_doubt.ensures c.if-records_in_doubt.false)
+returns c = sym (c.records_in_doubt.ensures c.if-records_in_doubt.false)

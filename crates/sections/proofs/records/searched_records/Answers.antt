@@ -18,16 +18,12 @@ is_bad_record-requires c = record {
   i_value = λ e. absurd (not_both refl e);
 }
 
-pub refused-requires : goal.refused-requires
-refused-requires c = tt
-
 pub returns-then-is_bad_record : goal.returns-then-is_bad_record
 unfolding code6 facts_of bad_record
 returns-then-is_bad_record c =
     let a = c.args in
     let i = c.loop-i.i in
-    c.refused.ensures
-    ∙ sym
+    sym
     (given_first_at 6 (bad_record (facts_in 0 0 [] a.records.now [])) a.flows i (omega arith)
     c.loop-i.invariant.1
     (sym c.is_bad_record.ensures ∙ c.if-is_bad_record.true))
@@ -38,14 +34,10 @@ loop-i-preserved c = (
   below_more _ _ c.loop-i.invariant.1 (sym c.is_bad_record.ensures ∙ c.if-is_bad_record.false),
 )
 
-pub done-requires : goal.done-requires
-done-requires c = tt
-
 pub returns : goal.returns
 unfolding code6 facts_of bad_record
 returns c =
     let a = c.args in
-    c.done.ensures
-    ∙ sym
+    sym
     (given_first_none 6 (bad_record (facts_in 0 0 [] a.records.now [])) a.flows
     (λ k h. c.loop-i.invariant.1 k (omega arith)))

@@ -27,5 +27,5 @@ pub returns : goal.returns
 returns c =
     let a = c.args in
     sym
-    (first_unique (bad_in_plan a.nodes a.plan.now) a.len c.loop-j.j (omega arith) c.loop-j.invariant.1
+    (first_unique (bad_in_plan a.nodes a.plan.now) a.len a.len (omega arith) (λ k h. c.loop-j.invariant.1 k (omega arith))
     (λ h. absurd (omega arith)))

@@ -6,4 +6,4 @@ use Rattle.sections.proofs.steps.is_unjoined.Goals as goal
 
 pub returns : goal.returns
 unfolding unjoined repeats goes_on
-returns c = refl
+returns c = rw (c.eq-repeats.ensures, c.eq-goes_on.ensures) refl

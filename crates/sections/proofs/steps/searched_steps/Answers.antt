@@ -65,6 +65,9 @@ first_bad_step-bad-requires c =
     let start = c.loop-i.start in
     rw (part_tail (2 * start) steps, length-drop (2 * start) steps) (omega (arith, room (goal.at.first_bad_step-bad-requires c).After-len_at-len))
 
+pub overflow_add-result : goal.overflow_add-result
+overflow_add-result c = omega (arith, room (goal.at.overflow_add-result c).After-len_at-len)
+
 pub overflow_add-start : goal.overflow_add-start
 overflow_add-start c = omega (arith, room (goal.at.overflow_add-start c).After-len_at-len)
 
@@ -75,15 +78,11 @@ returns-then-bad-len c =
     let loop = c.loop-i in
     let bad = found (goal.at.returns-then-bad-len c).After-first_bad_step-bad in
     let len = c.len_at-len.ensures.0 in
-    c.refused.ensures
-    ∙ ap₂ (λ (s b : ℕ). refused 8 (s + b)) loop.invariant.1 bad
+    ap₂ (λ (s b : ℕ). refused 8 (s + b)) loop.invariant.1 bad
     ∙ sym
     (bad_found a.nodes a.flows [] a.records.now a.steps.now loop.i (omega arith)
     (λ k h. loop.invariant.2 k (rw loop.invariant.1 h))
     (rw (← bad, ← len) c.if-bad-len.true))
-
-pub overflow_add-start-in-loop-i : goal.overflow_add-start-in-loop-i
-overflow_add-start-in-loop-i c = omega (arith, room (goal.at.overflow_add-start-in-loop-i c).After-len_at-len)
 
 pub loop-i-preserved : goal.loop-i-preserved
 unfolding first_step facts_of
@@ -105,8 +104,7 @@ returns c =
     let a = c.args in
     let loop = c.loop-i in
     let e : loop.i ≡ a.flows = omega arith in
-    c.done.ensures
-    ∙ sym
+    sym
     (given_first_none 8 (bad_step (facts_in a.nodes a.flows [] a.records.now a.steps.now))
     (sum_to (λ (k : ℕ). field a.records.now k 4) a.flows)
     (λ k h. loop.invariant.2 k (rw (loop.invariant.1, e) h)))

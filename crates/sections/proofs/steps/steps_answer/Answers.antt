@@ -3,4 +3,4 @@ use mathlib.Core.Path.{◌∙◌, sym}
 use Rattle.sections.proofs.steps.steps_answer.Goals as goal
 
 pub returns : goal.returns
-returns c = c.done.ensures ∙ sym (c.steps_in_doubt.ensures c.if-steps_in_doubt.false)
+returns c = sym (c.steps_in_doubt.ensures c.if-steps_in_doubt.false)

@@ -2,3 +2,4 @@
 pub mod Records
 pub mod Steps
 pub mod Formed
+pub mod Parts

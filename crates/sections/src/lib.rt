@@ -2,6 +2,7 @@
 #![tactic(auto)]
 
 mod at_once;
+pub mod parts;
 pub mod records;
 pub mod rows;
 pub mod steps;

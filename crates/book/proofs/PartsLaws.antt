@@ -3,7 +3,7 @@
 use Prim.Native.Nat.{ℕ, ◌+◌, ◌-◌, ◌*◌, ◌≤◌, ◌<◌}
 use mathlib.Core.Path.{◌≡◌, refl, sym, ◌∙◌, ap}
 use mathlib.Core.Bool.{Bool, true, false, cond, not, ◌||◌}
-use mathlib.Core.List.{List, []}
+use mathlib.Core.List.{List, [], ◌∷◌}
 use native.Mathlib.Omega.{arith}
 use lib.Dec.{ltb}
 use lib.ListN.{length, take, drop, length-take, length-drop}
@@ -15,15 +15,15 @@ use Rattle.trade.specs.Layout.{trailer, rows_distance, records_distance, steps_d
 use Rattle.trade.specs.Facts.{facts_of, facts_in, said, first_step, all_steps}
 use Rattle.trade.specs.First.{sum_to}
 use Rattle.trade.specs.Table.{steps_distance_of}
-use Rattle.trade.specs.Answers.{done, refused, given, is_done, first_of, no_number}
+use Rattle.trade.specs.Answers.{done, refused, given, given_first, is_done, first_of, no_number}
 use Rattle.trade.specs.Codes.{outside, code1, code2, code3, code4, code5, code6, code7, code8}
 use Rattle.trade.specs.Calls.{book_rules, read_answer}
 use Rattle.trade.specs.declared.answer.Answer.{Answer}
 use Rattle.trade.proofs.First.{or_false}
-use Rattle.trade.proofs.Answers.{first_of_rule, first_of_pass, first_of_refuse, given_true, given_false}
+use Rattle.trade.proofs.Answers.{first_of_rule, first_of_pass, first_of_refuse, first_of_last, given_passes, given_true, given_false}
 use Rattle.trade.proofs.Valid.{outside_false}
 use Rattle.sections.proofs.OwnSections.{code5_rows, code6_records, code8_steps}
-use Rattle.book.specs.Frame.{trailer_in, astray, trailer_answer, frame_by, frame_of, no_frame, Lies, section_rules, opened_of}
+use Rattle.book.specs.Frame.{trailer_in, astray, trailer_answer, frame_by, frame_of, Lies, section_rules}
 use Rattle.book.specs.declared.parts.Frame.{Frame}
 use Rattle.book.specs.declared.parts.Trailer.{Trailer}
 
@@ -69,7 +69,7 @@ module _ (slice : List ℕ) (f : Frame) (l : Lies slice f) where
   length_steps = sym (ap length steps_lie) ∙ length_between f.steps f.end l.steps (omega (arith, l.end))
 
   -- codes 5, 6 and 8 of the sections are those of what the slice says
-  counts : (f.nodes ≡ (sections_of slice).nodes) × (f.flows ≡ (sections_of slice).flows)
+  pub counts : (f.nodes ≡ (sections_of slice).nodes) × (f.flows ≡ (sections_of slice).flows)
   unfolding sections_of frame_of
   counts = (at (λ g. g.nodes), at (λ g. g.flows))
 
@@ -102,14 +102,43 @@ module _ (slice : List ℕ) (f : Frame) (l : Lies slice f) where
       given_true 7 _ 0
       (rw (ne_eqb (steps_distance slice) (step_bytes * sum_to (λ i. field (sections_of slice).records i 4) (sections_of slice).flows + trailer_bytes) (λ e. n (rw counts.1 (omega (arith, distance))))))
 
--- what is opened, by its answer
-pub opened_refused : (slice : List ℕ) (a : Answer) → read_answer slice ≡ a → (a.code ≡ 0 → ⊥) → opened_of slice ≡ record { answer = a; frame = no_frame }
-unfolding opened_of is_done
-opened_refused slice a e n = rw (e, ne_eqb a.code 0 n)
+  -- codes 5 to 8 in their order: what has passed leaves the answer to the rules after it
+  pub refused_five : (a : Answer) → (a.code ≡ 0 → ⊥) → a ≡ code5 (facts_in f.nodes 0 (sections_of slice).rows [] []) → a ≡ first_of section_rules no_number slice
+  unfolding section_rules
+  refused_five a n e =
+      let five = e ∙ code5_lies in
+      five ∙ sym (first_of_refuse _ _ no_number slice (λ z. n (ap (λ (r : Answer). r.code) five ∙ z)))
 
-pub opened_done : (slice : List ℕ) (a : Answer) → read_answer slice ≡ a → a.code ≡ 0 → opened_of slice ≡ record { answer = a; frame = frame_of slice }
-unfolding opened_of is_done
-opened_done slice a e z = rw (e, eq-eqb a.code 0 z)
+  past_five : done 0 ≡ code5 (facts_in f.nodes 0 (sections_of slice).rows [] []) → first_of section_rules no_number slice ≡ first_of ((λ b. code6 (said b)) ∷ code7 ∷ (λ b. code8 (said b)) ∷ []) no_number slice
+  unfolding section_rules
+  past_five e = first_of_pass _ _ no_number slice (sym (ap (λ (r : Answer). r.code) (e ∙ code5_lies)))
+
+  module _ (five : done 0 ≡ code5 (facts_in f.nodes 0 (sections_of slice).rows [] [])) where
+    pub refused_six : (a : Answer) → (a.code ≡ 0 → ⊥) → a ≡ code6 (facts_in 0 f.flows [] (sections_of slice).records []) → a ≡ first_of section_rules no_number slice
+    refused_six a n e =
+        let six = e ∙ code6_lies in
+        six ∙ sym (past_five five ∙ first_of_refuse _ _ no_number slice (λ z. n (ap (λ (r : Answer). r.code) six ∙ z)))
+
+    past_six : done 0 ≡ code6 (facts_in 0 f.flows [] (sections_of slice).records []) → first_of section_rules no_number slice ≡ first_of (code7 ∷ (λ b. code8 (said b)) ∷ []) no_number slice
+    past_six e = past_five five ∙ first_of_pass _ _ no_number slice (sym (ap (λ (r : Answer). r.code) (e ∙ code6_lies)))
+
+    module _ (six : done 0 ≡ code6 (facts_in 0 f.flows [] (sections_of slice).records [])) where
+      pub refused_seven : (step_bytes * sum_to (λ i. field (sections_of slice).records i 4) f.flows ≡ length (sections_of slice).steps → ⊥) → refused 7 0 ≡ first_of section_rules no_number slice
+      refused_seven n =
+          let e = code7_refuses n in
+          sym (past_six six ∙ first_of_refuse _ _ no_number slice (λ z. let o : ◌≡◌ {A = ℕ} 7 0 = sym (ap (λ (r : Answer). r.code) e) ∙ z in omega arith) ∙ e)
+
+      -- and the last of them is code 8
+      pub left_to_eight :
+          step_bytes * sum_to (λ i. field (sections_of slice).records i 4) f.flows ≡ length (sections_of slice).steps
+          → code8 (facts_in f.nodes f.flows [] (sections_of slice).records (sections_of slice).steps) ≡ first_of section_rules no_number slice
+      unfolding code8 given_first
+      left_to_eight seven =
+          code8_lies
+          ∙ sym
+          (past_six six
+          ∙ first_of_pass _ _ no_number slice (ap (λ (r : Answer). r.code) (code7_passes seven))
+          ∙ first_of_last (λ b. code8 (said b)) slice (given_passes 7 _ _))
 
 -- a slice of under ten bytes is refused with 1
 pub too_short : (slice : List ℕ) → length slice < trailer_bytes → read_answer slice ≡ refused 1 0

@@ -1,10 +1,14 @@
 -- Each public function's contract leaves one result, and one content of what it was lent. The contracts are those that the check
 -- reads in the code, `Post`. Assumes nothing.
 use mathlib.Core.Path.{◌≡◌}
+use Rattle.std.specs.Prelude.{Ok}
+use Rattle.std.proofs.lemmas.Result.{IfOk-at_ok}
+use Rattle.trade.specs.Refusals.{tested}
 use Rattle.trade.proofs.Unique.{OneResult, one_result}
+use Rattle.sections.specs.Parts.{sections_in}
+use Rattle.sections.specs.declared.parts.Parts.{Parts}
 use Rattle.book.proofs.parts.is_miscounted.Kinds as is_miscounted_kinds
 use Rattle.book.proofs.parts.is_miscounted.Reads as is_miscounted
-use Rattle.book.proofs.parts.open_book.Kinds as open_book_kinds
 use Rattle.book.proofs.parts.open_book.Reads as open_book
 use Rattle.book.proofs.parts.rows_of.Reads as rows_of
 use Rattle.book.proofs.parts.records_of.Reads as records_of
@@ -13,8 +17,14 @@ use Rattle.book.proofs.parts.steps_of.Reads as steps_of
 pub is_miscounted_unique : OneResult 0 is_miscounted_kinds.ps is_miscounted_kinds.r is_miscounted.Post
 is_miscounted_unique κs a r r' s s' p q = one_result p q
 
-pub open_book_unique : OneResult 1 open_book_kinds.ps open_book_kinds.r open_book.Post
-open_book_unique κs a r r' s s' p q = one_result p q
+-- what is opened has one answer, and its parts hold one row of sections
+pub open_book_unique :
+    (κs : _) (a : _) (r r' : _) (s s' : _)
+    → open_book.Post κs a r s
+    → open_book.Post κs a r' s'
+    → (tested r ≡ tested r') × ((p p' : Parts) → r ≡ Ok p → r' ≡ Ok p' → sections_in p ≡ sections_in p')
+open_book_unique κs a r r' s s' p q =
+    (one_result p.0 q.0, λ x y e e'. one_result (IfOk-at_ok _ e p.1) (IfOk-at_ok _ e' q.1))
 
 -- a part is lent on: what it holds is one list
 pub rows_of_unique : (κs : _) (a : _) (r r' : _) (s s' : _) → rows_of.Post κs a r s → rows_of.Post κs a r' s' → r.now ≡ r'.now

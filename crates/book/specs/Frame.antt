@@ -4,13 +4,11 @@ use Rattle.trade.specs.Limits.{mark, most_nodes, most_flows, row_bytes, record_b
 use Rattle.trade.specs.Bytes.{byte, word}
 use Rattle.trade.specs.Layout.{rows_distance, records_distance, steps_distance, node_count, flow_count}
 use Rattle.trade.specs.Facts.{said}
-use Rattle.trade.specs.Answers.{done, refused, is_done}
+use Rattle.trade.specs.Answers.{done, refused}
 use Rattle.trade.specs.Codes.{outside, code5, code6, code7, code8}
-use Rattle.trade.specs.Calls.{read_answer}
 use Rattle.trade.specs.declared.answer.Answer.{Answer}
 use Rattle.book.specs.declared.parts.Trailer.{Trailer}
 use Rattle.book.specs.declared.parts.Frame.{Frame}
-use Rattle.book.specs.declared.parts.Opened.{Opened}
 
 -- what the ten bytes of a trailer say
 unfoldable pub trailer_in : List ℕ → Trailer
@@ -74,14 +72,6 @@ pub record Lies (slice : List ℕ) (f : Frame) : Type 0 where
   pub end : f.end + trailer_bytes ≡ length slice
   pub within : steps_distance slice ≤ length slice
 
--- no parts, where a book is refused
-unfoldable pub no_frame : Frame
-no_frame = record { nodes = 0; flows = 0; rows = 0; records = 0; steps = 0; end = 0 }
-
 -- the rules on the sections: 5, 6, 7 and 8
 unfoldable pub section_rules : List (List ℕ → Answer)
 section_rules = (λ b. code5 (said b)) ∷ (λ b. code6 (said b)) ∷ code7 ∷ (λ b. code8 (said b)) ∷ []
-
--- codes 1 to 8 of a slice, and the parts of one that passes
-unfoldable pub opened_of : List ℕ → Opened
-opened_of slice = record { answer = read_answer slice; frame = cond (is_done (read_answer slice)) (frame_of slice) no_frame }

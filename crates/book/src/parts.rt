@@ -1,16 +1,20 @@
 // The parts of a book, found from its end, and codes 1 to 8 on a lent slice. Nothing is copied.
-ghost use Rattle.std.specs.Prelude.{◌≡◌, ◌≤◌, length, ◌||◌};
+ghost use Rattle.std.specs.Prelude.{◌≡◌, ◌≤◌, length, ◌||◌, IfOk};
 ghost use Rattle.trade.specs.Limits.{trailer_bytes, most_nodes, most_flows};
 ghost use Rattle.trade.specs.Layout.{sections_of};
 ghost use Rattle.trade.specs.Answers.{first_of, no_number};
 ghost use Rattle.trade.specs.Codes.{outside};
-ghost use Rattle.book.specs.Frame.{trailer_in, astray, trailer_answer, frame_by, no_frame, Lies, section_rules, opened_of};
+ghost use Rattle.trade.specs.Calls.{read_answer};
+ghost use Rattle.trade.specs.Refusals.{tested};
+ghost use Rattle.sections.specs.Parts.{sections_in};
+ghost use Rattle.book.specs.Frame.{trailer_in, astray, trailer_answer, frame_by, Lies, section_rules};
 
 use numbers::numbers::word_at;
+use sections::parts::Parts;
 use sections::records::{records_answer, steps_before};
 use sections::rows::rows_answer;
 use sections::steps::steps_answer;
-use trade::{Answer, Book, Flow, Node, Plan};
+use trade::{Book, Flow, Node, Plan, Refusal};
 
 // What a trailer says: the distances to the three sections, the counts, and whether the mark is there.
 #[derive(Clone, Copy)]
@@ -32,13 +36,6 @@ pub struct Frame {
     pub records: usize,
     pub steps: usize,
     pub end: usize,
-}
-
-// The answer to a slice as a book, and its parts where it is one.
-#[derive(Clone, Copy)]
-pub struct Opened {
-    pub answer: Answer,
-    pub frame: Frame,
 }
 
 // The trailer that the last ten bytes of a slice are.
@@ -79,20 +76,20 @@ pub fn is_miscounted(nodes: usize, flows: usize) -> bool
 }
 
 // Codes 2 to 4 on what a trailer says.
-fn trailer_answer(t: Trailer, len: usize) -> Answer
-    ensures { result ≡ trailer_answer t len }
+fn trailer_answer(t: Trailer, len: usize) -> Result<(), Refusal>
+    ensures { tested result ≡ trailer_answer t len }
 {
     let marked = t.marked;
     if !marked {
-        return Answer::refused(2, 0);
+        return Err(Refusal::Unmarked);
     }
     if is_miscounted(t.nodes as usize, t.flows as usize) {
-        return Answer::refused(3, 0);
+        return Err(Refusal::Miscounted);
     }
     if is_astray(t, len) {
-        return Answer::refused(4, 0);
+        return Err(Refusal::Astray);
     }
-    Answer::done(0)
+    Ok(())
 }
 
 // Where the parts lie whose distances a trailer gives.
@@ -138,61 +135,42 @@ pub fn steps_of(slice: &[u8], f: Frame) -> &[u8]
     &slice[from..to]
 }
 
-// Codes 5 to 8 on the sections of a book.
-fn sections_answer(slice: &[u8], f: Frame) -> Answer
+// Codes 5 to 8 on the sections of a book, and its parts where they pass.
+fn sections_answer(slice: &[u8], f: Frame) -> Result<Parts<'_>, Refusal>
     requires { Lies slice.now f }
-    ensures { result ≡ first_of section_rules no_number slice.now }
+    ensures answer { tested result ≡ first_of section_rules no_number slice.now }
+    ensures parts { IfOk result (λ p. sections_in p ≡ sections_of slice.now) }
 {
+    let rows = rows_of(slice, f);
     let records = records_of(slice, f);
     let steps = steps_of(slice, f);
-    let rows = rows_answer(f.nodes, rows_of(slice, f));
-    if rows.code != 0 {
-        return rows;
+    rows_answer(f.nodes, rows)?;
+    records_answer(f.flows, records)?;
+    let used = Plan::STEP_BYTES * steps_before(records, f.flows);
+    let room = steps.len();
+    if used != room {
+        return Err(Refusal::Uneven);
     }
-    let named = records_answer(f.flows, records);
-    if named.code != 0 {
-        return named;
-    }
-    if Plan::STEP_BYTES * steps_before(records, f.flows) != steps.len() {
-        return Answer::refused(7, 0);
-    }
-    steps_answer(f.nodes, f.flows, records, steps)
-}
-
-// A book that is refused has no parts.
-fn shut(answer: Answer) -> Opened
-    ensures { result ≡ record { answer = answer; frame = no_frame } }
-{
-    Opened {
-        answer,
-        frame: Frame {
-            nodes: 0,
-            flows: 0,
-            rows: 0,
-            records: 0,
-            steps: 0,
-            end: 0,
-        },
-    }
+    steps_answer(f.nodes, f.flows, records, steps)?;
+    Ok(Parts {
+        nodes: f.nodes,
+        flows: f.flows,
+        rows,
+        records,
+        steps,
+    })
 }
 
 // Codes 1 to 8 of a slice, each at its first place, in their order; and the parts of one that passes.
-pub fn open_book(slice: &[u8]) -> Opened
-    ensures { result ≡ opened_of slice.now }
+pub fn open_book(slice: &[u8]) -> Result<Parts<'_>, Refusal>
+    ensures answer { tested result ≡ read_answer slice.now }
+    ensures parts { IfOk result (λ p. sections_in p ≡ sections_of slice.now) }
 {
     if slice.len() < Book::TRAILER_BYTES {
-        return shut(Answer::refused(1, 0));
+        return Err(Refusal::Short);
     }
     let end = slice.len() - Book::TRAILER_BYTES;
     let t = trailer_of(&slice[end..]);
-    let marked = trailer_answer(t, slice.len());
-    if marked.code != 0 {
-        return shut(marked);
-    }
-    let frame = frame_by(t, slice.len());
-    let answer = sections_answer(slice, frame);
-    if answer.code != 0 {
-        return shut(answer);
-    }
-    Opened { answer, frame }
+    trailer_answer(t, slice.len())?;
+    sections_answer(slice, frame_by(t, slice.len()))
 }

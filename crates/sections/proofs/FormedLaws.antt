@@ -1,17 +1,20 @@
 -- Sections that pass codes 6 and 8, and hold what their counts say, are well formed; and where they are, so are fewer flows, and their
 -- plans lie in the steps. Leans on the trade's Valid. Assumes nothing.
 use Prim.Native.Nat.{ℕ, ◌+◌, ◌*◌, ◌≤◌, ◌<◌, suc, ◌-◌}
-use mathlib.Core.Path.{◌≡◌}
-use mathlib.Core.List.{List}
+use mathlib.Core.Path.{◌≡◌, ap, sym, ◌∙◌}
+use mathlib.Core.List.{List, []}
 use native.Mathlib.Omega.{arith}
 use lib.ListN.{length, drop, length-drop}
 use Rattle.trade.specs.Limits.{most_nodes, most_flows, row_bytes, record_bytes, step_bytes, most_steps}
-use Rattle.trade.specs.Layout.{Sections, field}
-use Rattle.trade.specs.Facts.{facts_of, first_step, all_steps}
+use Rattle.trade.specs.Layout.{Sections, sections, field}
+use Rattle.trade.specs.Facts.{facts_of, facts_in, first_step, all_steps}
+use Rattle.trade.specs.Answers.{done}
+use Rattle.trade.specs.declared.answer.Answer.{Answer}
 use Rattle.trade.specs.Codes.{bad_record, code6, code8}
 use Rattle.trade.proofs.Answers.{given_first_passed}
 use Rattle.trade.proofs.Valid.{sound, placed}
 use Rattle.sections.specs.Formed.{Formed, plan_start, plan_at}
+use Rattle.sections.proofs.OwnSections.{code6_records, code8_steps}
 use lib.Seq.{length-take-le}
 use Rattle.trade.specs.First.{sum_to}
 use Rattle.trade.specs.Bytes.{part}
@@ -48,6 +51,24 @@ module _
                 apart = p.apart;
               };
         }
+
+-- the same of counts and sections that are apart, by what their tests answer
+pub formed_when :
+    (nodes flows : ℕ) (rows records steps : List ℕ)
+    → nodes ≤ most_nodes
+    → flows ≤ most_flows
+    → row_bytes * nodes ≤ length rows
+    → record_bytes * flows ≤ length records
+    → step_bytes * sum_to (λ i. field records i 4) flows ≤ length steps
+    → done 0 ≡ code6 (facts_in 0 flows [] records [])
+    → done 0 ≡ code8 (facts_in nodes flows [] records steps)
+    → Formed flows rows records steps
+unfolding all_steps first_step facts_of
+formed_when nodes flows rows records steps n m r c p six eight =
+    let s = sections nodes flows rows records steps in
+    formed_by s n m r c p
+    (sym (ap (λ (a : Answer). a.code) (six ∙ code6_records s)))
+    (sym (ap (λ (a : Answer). a.code) (eight ∙ code8_steps s)))
 
 -- fewer flows are well formed too
 pub formed_less : (k m : ℕ) (rows records steps : List ℕ) → k ≤ m → Formed m rows records steps → Formed k rows records steps

@@ -34,6 +34,10 @@ impl<'a> Parts<'a> {
         requires { i < self.flows }
         ensures { result.now ≡ plan_at self.entry.records.now self.entry.steps.now i }
     {
-        plan_part(self.steps, steps_before(self.records, i), len_at(self.records, i))
+        plan_part(
+            self.steps,
+            steps_before(self.records, i),
+            len_at(self.records, i),
+        )
     }
 }

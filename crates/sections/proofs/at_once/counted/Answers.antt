@@ -1,5 +1,5 @@
 -- `sections::at_once::counted` meets its contract: a bool as a number is 1 where it holds and else 0. Assumes nothing.
-use Prim.Native.Nat.{ℕ, ◌≤◌}
+use Prim.Native.Nat.{◌≤◌}
 use mathlib.Core.Path.{◌≡◌, refl}
 use mathlib.Core.Bool.{Bool, true, false}
 use native.Mathlib.Omega.{arith}

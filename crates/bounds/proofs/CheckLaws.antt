@@ -5,14 +5,20 @@ use mathlib.Core.Path.{◌≡◌, refl, sym, ◌∙◌, ap}
 use mathlib.Core.Bool.{cond}
 use mathlib.Core.List.{List, [], ◌∷◌}
 use borrow.Author.Tests.{eq-eqb, ne_eqb}
-use Rattle.trade.specs.Layout.{sections_of}
+use Rattle.std.specs.Prelude.{Result, Ok, Err, IfOk, MatchResult}
+use Rattle.trade.specs.Layout.{Sections, sections_of}
 use Rattle.trade.specs.Facts.{facts_in, facts_of, said}
 use Rattle.trade.specs.Answers.{is_done, given_first, first_of, on, no_number}
 use Rattle.trade.specs.Bound.{code9, code9_by}
 use Rattle.trade.specs.Calls.{book_rules, read_answer, check_answer, check_by, check_answer_by, check_rules_by}
+use Rattle.trade.specs.Refusals.{tested}
 use Rattle.trade.specs.declared.answer.Answer.{Answer}
+use Rattle.trade.specs.declared.refusal.Refusal.{Refusal}
+use Rattle.trade.proofs.Refusals.{refuses}
+use Rattle.sections.specs.Parts.{sections_in}
+use Rattle.sections.specs.declared.parts.Parts.{Parts}
 use Rattle.trade.proofs.Answers.{first_of_on, first_of_last, given_passes}
-use Rattle.bounds.specs.Bounds.{refused_by, bounded_in, bounded_by, ChecksAs}
+use Rattle.bounds.specs.Bounds.{refused_by, checked_by, bounded_in, bounded_by, ChecksAs}
 use Rattle.trade.proofs.Alike.{alike_counts}
 use Rattle.bounds.proofs.BoundsLaws.{bounded_alike}
 
@@ -60,3 +66,18 @@ unfolding said facts_of
 said_bounded b e =
     bounded_alike (facts_in 0 (sections_of b).flows (sections_of b).rows (sections_of b).records (sections_of b).steps) (facts_of (sections_of b)) refl
     (alike_counts (sections_of b).flows 0 (sections_of b).flows (sections_of b).nodes (sections_of b).flows (sections_of b).rows (sections_of b).records (sections_of b).steps)
+
+-- opened and bounded, or refused by the first of the two
+pub checks :
+    (b : List ℕ) (opened : Result Parts Refusal) (bounds : Result (List ℕ) Refusal)
+    → tested opened ≡ read_answer b
+    → IfOk opened (λ p. sections_in p ≡ sections_of b)
+    → MatchResult opened (λ p. checked_by bounds ≡ bounded_by (facts_in 0 p.flows p.rows.now p.records.now p.steps.now)) (λ e. bounds ≡ Err e)
+    → ChecksAs b (checked_by bounds)
+checks b (Ok p) bounds a s m =
+    let passed : (read_answer b).code ≡ 0 = sym (ap (λ (x : Answer). x.code) a) in
+    let bounded : checked_by bounds ≡ bounded_by (said b) =
+    m ∙ ap (λ (s : Sections). bounded_by (facts_in 0 s.flows s.rows s.records s.steps)) s ∙ said_bounded b passed in
+    rw bounded (checks_bounded b passed)
+checks b (Err e) bounds a s m =
+    rw (m, a) (checks_refused b (λ z. refuses e (ap (λ (x : Answer). x.code) a ∙ z)))

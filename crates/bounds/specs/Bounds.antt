@@ -1,17 +1,24 @@
 -- What the bounds of all flows, and the check of a book, are answered with. Leans on the trade's calls.
-use Rattle.std.specs.Prelude.{ℕ, ◌*◌, ◌≤◌, ◌<◌, ◌≡◌, cond, List, length, replicate}
+use Rattle.std.specs.Prelude.{ℕ, ◌*◌, ◌≤◌, ◌<◌, ◌≡◌, cond, List, length, replicate, Result, Ok, Err}
 use Rattle.trade.specs.Limits.{most_flows, record_bytes}
 use Rattle.trade.specs.Facts.{Facts}
-use Rattle.trade.specs.Answers.{is_done}
+use Rattle.trade.specs.Answers.{done, is_done}
+use Rattle.trade.specs.Refusals.{answer_of}
 use Rattle.trade.specs.Bound.{Measure, measure, code9_by}
 use Rattle.trade.specs.Calls.{bounds_by, check_of}
 use Rattle.trade.specs.declared.answer.Answer.{Answer}
+use Rattle.trade.specs.declared.refusal.Refusal.{Refusal}
 use Rattle.sections.specs.Formed.{InRange}
 use Rattle.bounds.specs.declared.bounds.Checked.{Checked}
 
 -- refused, all zeros
 abbrev pub refused_by : Answer → Checked
 refused_by answer = record { answer = answer; bounds = replicate most_flows 0 }
+
+-- the answer and the bounds, or the refusal
+abbrev pub checked_by : Result (List ℕ) Refusal → Checked
+checked_by (Ok bounds) = record { answer = done 0; bounds = bounds }
+checked_by (Err refusal) = refused_by (answer_of refusal)
 
 -- code 9 by a measure, and the bounds where it is not given
 unfoldable pub bounded_in : Facts → Measure → Checked

@@ -3,5 +3,8 @@
 
 pub mod acceptance;
 pub mod bounds;
+mod carried;
+mod costs;
 pub mod kept;
 mod rising;
+mod worked;

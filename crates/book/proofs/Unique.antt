@@ -5,7 +5,7 @@ use Rattle.std.specs.Prelude.{Ok}
 use Rattle.std.proofs.lemmas.Result.{IfOk-at_ok}
 use Rattle.trade.specs.Refusals.{tested}
 use Rattle.trade.proofs.Unique.{OneResult, one_result}
-use Rattle.sections.specs.Parts.{sections_in}
+use Rattle.sections.specs.Parts.{sections_held}
 use Rattle.sections.specs.declared.parts.Parts.{Parts}
 use Rattle.book.proofs.parts.is_miscounted.Kinds as is_miscounted_kinds
 use Rattle.book.proofs.parts.is_miscounted.Reads as is_miscounted
@@ -22,7 +22,7 @@ pub open_book_unique :
     (κs : _) (a : _) (r r' : _) (s s' : _)
     → open_book.Post κs a r s
     → open_book.Post κs a r' s'
-    → (tested r ≡ tested r') × ((p p' : Parts) → r ≡ Ok p → r' ≡ Ok p' → sections_in p ≡ sections_in p')
+    → (tested r ≡ tested r') × ((p p' : Parts) → r ≡ Ok p → r' ≡ Ok p' → sections_held p ≡ sections_held p')
 open_book_unique κs a r r' s s' p q =
     (one_result p.0 q.0, λ x y e e'. one_result (IfOk-at_ok _ e p.1) (IfOk-at_ok _ e' q.1))
 

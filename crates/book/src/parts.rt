@@ -6,7 +6,7 @@ ghost use Rattle.trade.specs.Answers.{first_of, no_number};
 ghost use Rattle.trade.specs.Codes.{outside};
 ghost use Rattle.trade.specs.Calls.{read_answer};
 ghost use Rattle.trade.specs.Refusals.{tested};
-ghost use Rattle.sections.specs.Parts.{sections_in};
+ghost use Rattle.sections.specs.Parts.{sections_held};
 ghost use Rattle.book.specs.Frame.{trailer_in, astray, trailer_answer, frame_by, Lies, section_rules};
 
 use numbers::numbers::word_at;
@@ -139,7 +139,7 @@ pub fn steps_of(slice: &[u8], f: Frame) -> &[u8]
 fn sections_answer(slice: &[u8], f: Frame) -> Result<Parts<'_>, Refusal>
     requires { Lies slice.now f }
     ensures answer { tested result ≡ first_of section_rules no_number slice.now }
-    ensures parts { IfOk result (λ p. sections_in p ≡ sections_of slice.now) }
+    ensures parts { IfOk result (λ p. sections_held p ≡ sections_of slice.now) }
 {
     let rows = rows_of(slice, f);
     let records = records_of(slice, f);
@@ -164,7 +164,7 @@ fn sections_answer(slice: &[u8], f: Frame) -> Result<Parts<'_>, Refusal>
 // Codes 1 to 8 of a slice, each at its first place, in their order; and the parts of one that passes.
 pub fn open_book(slice: &[u8]) -> Result<Parts<'_>, Refusal>
     ensures answer { tested result ≡ read_answer slice.now }
-    ensures parts { IfOk result (λ p. sections_in p ≡ sections_of slice.now) }
+    ensures parts { IfOk result (λ p. sections_held p ≡ sections_of slice.now) }
 {
     if slice.len() < Book::TRAILER_BYTES {
         return Err(Refusal::Short);

@@ -15,7 +15,7 @@ use Rattle.trade.specs.Refusals.{tested}
 use Rattle.trade.specs.declared.answer.Answer.{Answer}
 use Rattle.trade.specs.declared.refusal.Refusal.{Refusal}
 use Rattle.trade.proofs.Refusals.{refuses}
-use Rattle.sections.specs.Parts.{sections_in}
+use Rattle.sections.specs.Parts.{sections_held}
 use Rattle.sections.specs.declared.parts.Parts.{Parts}
 use Rattle.trade.proofs.Answers.{first_of_on, first_of_last, given_passes}
 use Rattle.bounds.specs.Bounds.{refused_by, checked_by, bounded_in, bounded_by, ChecksAs}
@@ -71,7 +71,7 @@ said_bounded b e =
 pub checks :
     (b : List ℕ) (opened : Result Parts Refusal) (bounds : Result (List ℕ) Refusal)
     → tested opened ≡ read_answer b
-    → IfOk opened (λ p. sections_in p ≡ sections_of b)
+    → IfOk opened (λ p. sections_held p ≡ sections_of b)
     → MatchResult opened (λ p. checked_by bounds ≡ bounded_by (facts_in 0 p.flows p.rows.now p.records.now p.steps.now)) (λ e. bounds ≡ Err e)
     → ChecksAs b (checked_by bounds)
 checks b (Ok p) bounds a s m =

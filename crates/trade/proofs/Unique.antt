@@ -18,6 +18,8 @@ use Rattle.trade.proofs.state.Run.empty.Kinds as empty_kinds
 use Rattle.trade.proofs.state.Run.empty.Reads as empty
 use Rattle.trade.proofs.limits.all_limits.Kinds as all_limits_kinds
 use Rattle.trade.proofs.limits.all_limits.Reads as all_limits
+use Rattle.trade.proofs.refusal.Refusal.answer.Kinds as refusal_answer_kinds
+use Rattle.trade.proofs.refusal.Refusal.answer.Reads as refusal_answer
 
 -- of two results that meet a contract on the same arguments, over its parameters' and its result's kinds, one is the other
 abbrev pub OneResult : (n : ℕ) (ps : List (ParamKind n)) (k : ResultKind n) → Out n ps k → Type 0
@@ -47,3 +49,6 @@ empty_unique κs a r r' s s' p q = one_result p q
 
 pub all_limits_unique : OneResult 0 all_limits_kinds.ps all_limits_kinds.r all_limits.Post
 all_limits_unique κs a r r' s s' p q = one_result p q
+
+pub refusal_answer_unique : OneResult 0 refusal_answer_kinds.ps refusal_answer_kinds.r refusal_answer.Post
+refusal_answer_unique κs a r r' s s' p q = one_result p q

@@ -1,6 +1,6 @@
 // Why a call is refused.
 ghost use Rattle.std.specs.Prelude.{◌≡◌};
-ghost use Rattle.trade.specs.Refusals.{answer_of};
+ghost use Rattle.trade.specs.Refusals.{answer_of, answered, tested};
 
 use crate::answer::Answer;
 
@@ -68,5 +68,29 @@ impl From<Refusal> for Answer {
 
     fn from(refusal: Refusal) -> Answer {
         refusal.answer()
+    }
+}
+
+// Done, or refused.
+impl From<Result<(), Refusal>> for Answer {
+    ghost from_gives = { λ tried answer. answer ≡ tested tried };
+
+    fn from(tried: Result<(), Refusal>) -> Answer {
+        match tried {
+            Ok(()) => Answer::done(0),
+            Err(refusal) => refusal.answer(),
+        }
+    }
+}
+
+// Done with a count, or refused.
+impl From<Result<usize, Refusal>> for Answer {
+    ghost from_gives = { λ tried answer. answer ≡ answered (λ count. count) tried };
+
+    fn from(tried: Result<usize, Refusal>) -> Answer {
+        match tried {
+            Ok(count) => Answer::done(count as u64),
+            Err(refusal) => refusal.answer(),
+        }
     }
 }

@@ -18,7 +18,11 @@ use Rattle.trade.proofs.Answers.{given_first_at, given_first_none}
 use Rattle.trade.proofs.Alike.{Alike, SameTimes, SameMeasure, alike_times, code9_times, bounds_times}
 use Rattle.trade.proofs.Fair.{measure_alike}
 use Rattle.trade.proofs.Bound.{bound_admissible, boundless_false}
-use Rattle.bounds.specs.Bounds.{refused_by, bounded_in, bounded_by}
+use Rattle.std.specs.Prelude.{Result, IsErrAnd}
+use Rattle.std.proofs.lemmas.Result.{err_from_is_err_and}
+use Rattle.trade.specs.Refusals.{answer_of}
+use Rattle.trade.specs.declared.refusal.Refusal.{Refusal}
+use Rattle.bounds.specs.Bounds.{checked_by, refused_by, bounded_in, bounded_by}
 
 -- a bound above the deadline is none, by any measure
 pub boundless_over : (f : Facts) (μ : Measure) (l : ℕ) → f.deadline l < bound_by f μ l → boundless_by f μ l ≡ true
@@ -105,3 +109,9 @@ bounded_times f g m t μ ν same = rw (code9_times f g m t μ ν same, bounds_ti
 -- as facts alike on all their flows do
 pub bounded_alike : (f g : Facts) → f.flows ≡ g.flows → Alike f.flows f g → bounded_by f ≡ bounded_by g
 bounded_alike f g m a = bounded_times f g m (alike_times a) (measure f) (measure g) (measure_alike f.flows f g a)
+
+-- what a `?` hands on comes with no bounds
+pub bounds_handed_on : (r : Result (List ℕ) Refusal) (refusal : Refusal) → IsErrAnd r (λ e. e ≡ refusal) → checked_by r ≡ refused_by (answer_of refusal)
+bounds_handed_on r refusal h =
+    let (e, is, same) = err_from_is_err_and r h in
+    rw (is, same) refl

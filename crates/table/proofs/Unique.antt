@@ -1,15 +1,20 @@
 -- Each public function's contract leaves one result, and one content of what it was lent. The contracts are those that the check
 -- reads in the code, `Post`. Assumes nothing.
 use mathlib.Core.Path.{◌≡◌}
+use Rattle.std.specs.Prelude.{Ok}
+use Rattle.std.proofs.lemmas.Result.{IfOk-at_ok}
+use Rattle.trade.specs.Refusals.{tested}
 use Rattle.trade.proofs.Unique.{OneResult, one_result}
+use Rattle.sections.specs.Parts.{sections_held}
+use Rattle.sections.specs.declared.parts.Parts.{Parts}
 use Rattle.table.specs.Table.{kept_in}
 use Rattle.table.specs.declared.table.Table.{Table}
 use Rattle.table.proofs.table.Table.empty.Kinds as empty_kinds
 use Rattle.table.proofs.table.Table.empty.Reads as empty
 use Rattle.table.proofs.table.table_of.Kinds as table_of_kinds
 use Rattle.table.proofs.table.table_of.Reads as table_of
-use Rattle.table.proofs.table.table_answer.Kinds as table_answer_kinds
 use Rattle.table.proofs.table.table_answer.Reads as table_answer
+use Rattle.table.proofs.table.Table.parts.Reads as parts
 use Rattle.table.proofs.table.read.Kinds as read_book_kinds
 use Rattle.table.proofs.table.read.Reads as read_book
 use Rattle.table.proofs.checked.check_table.Kinds as check_table_kinds
@@ -35,8 +40,22 @@ empty_unique κs a r r' s s' p q = same_table r r' (one_result p q)
 pub table_of_unique : OneResult 1 table_of_kinds.ps table_of_kinds.r table_of.Post
 table_of_unique κs a r r' s s' p q = same_table r r' (one_result p q)
 
-pub table_answer_unique : OneResult 1 table_answer_kinds.ps table_answer_kinds.r table_answer.Post
-table_answer_unique κs a r r' s s' p q = one_result p q
+-- what passes has one answer, and its parts hold one row of sections
+pub table_answer_unique :
+    (κs : _) (a : _) (r r' : _) (s s' : _)
+    → table_answer.Post κs a r s
+    → table_answer.Post κs a r' s'
+    → (tested r ≡ tested r') × ((p p' : Parts) → r ≡ Ok p → r' ≡ Ok p' → sections_held p ≡ sections_held p')
+table_answer_unique κs a r r' s s' p q =
+    (one_result p.0 q.0, λ x y e e'. one_result (IfOk-at_ok _ e p.1) (IfOk-at_ok _ e' q.1))
+
+pub parts_unique :
+    (κs : _) (a : _) (r r' : _) (s s' : _)
+    → parts.Post κs a r s
+    → parts.Post κs a r' s'
+    → (tested r ≡ tested r') × ((p p' : Parts) → r ≡ Ok p → r' ≡ Ok p' → sections_held p ≡ sections_held p')
+parts_unique κs a r r' s s' p q =
+    (one_result p.0 q.0, λ x y e e'. one_result (IfOk-at_ok _ e p.1) (IfOk-at_ok _ e' q.1))
 
 pub read_unique : OneResult 1 read_book_kinds.ps read_book_kinds.r read_book.Post
 read_unique κs a r r' s s' p q =

@@ -11,7 +11,7 @@ use Rattle.trade.specs.Limits.{most_nodes, most_flows, most_steps, row_bytes, re
 use Rattle.trade.specs.Bytes.{over}
 use Rattle.trade.specs.Layout.{Sections}
 use Rattle.trade.specs.Facts.{facts_of, all_steps}
-use Rattle.trade.specs.Table.{rows_distance_of, records_distance_of, steps_distance_of, book_of, trailer_of, used}
+use Rattle.trade.specs.Table.{InMemory, rows_distance_of, records_distance_of, steps_distance_of, book_of, trailer_of, used}
 use Rattle.trade.specs.Answers.{done, refused, is_done, given, first_of, no_number}
 use Rattle.trade.specs.Codes.{code13}
 use Rattle.trade.specs.Calls.{Writing, Written, table_rules, write_answer, write_of}
@@ -38,6 +38,23 @@ sized t e =
     let v = table_valid t p in
     record { nodes = v.nodes.most; flows = v.flows; plans = plans_most (facts_of t) (passed_head (passed_tail (passed_tail p))) }
 
+-- a buffer of so many bytes has room for its book, and the length that is worked out is the book's
+module _ (t : Sections) (m : InMemory t) (e : (first_of table_rules no_number t).code ≡ 0) (all : ℕ) (a : all ≡ all_steps (facts_of t)) where
+  pub roomy : (room : ℕ) → row_bytes * t.nodes + record_bytes * t.flows + step_bytes * all + trailer_bytes ≤ room → Room t all room
+  unfolding rows_distance_of records_distance_of steps_distance_of
+  roomy room h =
+      let z = sized t e in
+      record {
+        nodes = z.nodes;
+        flows = z.flows;
+        plans = omega (arith, z.plans, z.flows, a);
+        all = a;
+        rows = omega (arith, z.nodes, m.rows);
+        records = omega (arith, z.flows, m.records);
+        steps = omega (arith, z.plans, z.flows, a, m.steps);
+        buffer = omega (arith, a, h);
+      }
+
 -- the length of its book
 pub book_length :
     (t : Sections) (all room : ℕ)
@@ -47,6 +64,17 @@ unfolding rows_distance_of records_distance_of steps_distance_of
 book_length t all room r =
     let whole : Holds t = record { rows = r.rows; records = r.records; steps = omega (arith, r.all, r.steps) } in
     length_book t whole ∙ omega (arith, r.all)
+
+pub long :
+    (t : Sections)
+    → InMemory t
+    → (first_of table_rules no_number t).code ≡ 0
+    → (all : ℕ)
+    → all ≡ all_steps (facts_of t)
+    → length (book_of t) ≡ row_bytes * t.nodes + record_bytes * t.flows + step_bytes * all + trailer_bytes
+long t m e all a =
+    let n = row_bytes * t.nodes + record_bytes * t.flows + step_bytes * all + trailer_bytes in
+    book_length t all n (roomy t m e all a n (omega arith))
 
 module _ (t : Sections) (d : List ℕ) where
   by_rules :

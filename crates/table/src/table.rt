@@ -1,20 +1,23 @@
 // The table in memory: the same counts and sections as a book, in the same layout, with room for the largest, and the interference of its
 // flows, I(l,h) at 32 l + h; and reading.
-ghost use Rattle.std.specs.Prelude.{◌≡◌, ◌≤◌, length};
+ghost use Rattle.std.specs.Prelude.{◌≡◌, ◌≤◌, length, IfOk};
 ghost use Rattle.trade.specs.Layout.{sections};
 ghost use Rattle.trade.specs.Answers.{first_of, no_number};
 ghost use Rattle.trade.specs.Table.{InMemory, rows_room, records_room, steps_room};
 ghost use Rattle.trade.specs.Kept.{empty_kept};
 ghost use Rattle.trade.specs.Calls.{table_rules};
+ghost use Rattle.trade.specs.Refusals.{tested};
 ghost use Rattle.sections.specs.Formed.{Formed};
-ghost use Rattle.table.specs.Table.{kept_in, table_with, Reads};
+ghost use Rattle.sections.specs.Parts.{sections_held};
+ghost use Rattle.table.specs.Table.{sections_in, kept_in, table_with, Reads};
 
-use book::parts::{is_miscounted, open_book, records_of, rows_of, steps_of};
+use book::parts::{is_miscounted, open_book};
+use sections::parts::Parts;
 use sections::records::records_answer;
 use sections::rows::rows_answer;
 use sections::steps::steps_answer;
 use square::kept::keep;
-use trade::{Answer, Flow, Node, Plan};
+use trade::{Answer, Flow, Node, Plan, Refusal};
 
 #[derive(Clone, Copy)]
 pub struct Table {
@@ -46,6 +49,20 @@ impl Table {
             steps: [0; Flow::MOST * Plan::MOST * Plan::STEP_BYTES],
             figures: [0; Flow::MOST * Flow::MOST],
         }
+    }
+
+    // Codes 3, 5, 6 and 8 on the table, and its parts where they pass.
+    pub fn parts(&self) -> Result<Parts<'_>, Refusal>
+        ensures answer { tested result ≡ first_of table_rules no_number (sections_in self.now) }
+        ensures parts { IfOk result (λ p. sections_held p ≡ sections_in self.now) }
+    {
+        table_answer(
+            self.nodes as usize,
+            self.flows as usize,
+            &self.rows,
+            &self.records,
+            &self.steps,
+        )
     }
 }
 
@@ -79,50 +96,51 @@ pub fn table_of<'a>(
     }
 }
 
-// Codes 3, 5, 6 and 8 on a table's sections.
+// Codes 3, 5, 6 and 8 on a table's sections, and its parts where they pass.
 pub fn table_answer<'a>(
     nodes: usize,
     flows: usize,
     rows: &'a [u8],
     records: &'a [u8],
     steps: &'a [u8],
-) -> Answer
+) -> Result<Parts<'a>, Refusal>
     requires { InMemory (sections nodes flows rows.now records.now steps.now) }
-    ensures { result ≡ first_of table_rules no_number (sections nodes flows rows.now records.now steps.now) }
+    ensures answer { tested result ≡ first_of table_rules no_number (sections nodes flows rows.now records.now steps.now) }
+    ensures parts { IfOk result (λ p. sections_held p ≡ sections nodes flows rows.now records.now steps.now) }
 {
     if is_miscounted(nodes, flows) {
-        return Answer::refused(3, 0);
+        return Err(Refusal::Miscounted);
     }
-    let rowed = rows_answer(nodes, rows);
-    if rowed.code != 0 {
-        return rowed;
-    }
-    let named = records_answer(flows, records);
-    if named.code != 0 {
-        return named;
-    }
-    steps_answer(nodes, flows, records, steps)
+    rows_answer(nodes, rows)?;
+    records_answer(flows, records)?;
+    steps_answer(nodes, flows, records, steps)?;
+    Ok(Parts {
+        nodes,
+        flows,
+        rows,
+        records,
+        steps,
+    })
 }
 
 // READ: codes 1 to 8; the table with its unused places zero and its figures right, or a table of zeros with the refusal.
 pub fn read(book: &[u8]) -> Got
     ensures { Reads book.now result }
 {
-    let o = open_book(book);
-    let answer = o.answer;
-    if answer.code != 0 {
-        return Got {
-            answer,
+    match open_book(book) {
+        Ok(parts) => Got {
+            answer: Answer::done(0),
+            table: table_of(
+                parts.nodes as u8,
+                parts.flows as u8,
+                parts.rows,
+                parts.records,
+                parts.steps,
+            ),
+        },
+        Err(refusal) => Got {
+            answer: refusal.answer(),
             table: Table::empty(),
-        };
+        },
     }
-    let f = o.frame;
-    let table = table_of(
-        f.nodes as u8,
-        f.flows as u8,
-        rows_of(book, f),
-        records_of(book, f),
-        steps_of(book, f),
-    );
-    Got { answer, table }
 }

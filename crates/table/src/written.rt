@@ -1,16 +1,18 @@
 // A table written as a book, at the front of a lent buffer.
 ghost use Rattle.std.specs.Prelude.{◌≡◌, ◌+◌, length};
 ghost use Rattle.trade.specs.Bytes.{over};
-ghost use Rattle.trade.specs.Layout.{sections};
-ghost use Rattle.trade.specs.Table.{InMemory, book_of};
+ghost use Rattle.trade.specs.Table.{book_of};
+ghost use Rattle.trade.specs.Refusals.{answered};
+ghost use Rattle.sections.specs.Parts.{sections_held};
 ghost use Rattle.table.specs.Table.{sections_in};
 ghost use Rattle.table.specs.Written.{trailer_with, Room, Writes};
 
-use crate::table::{Table, table_answer};
+use crate::table::Table;
 use numbers::numbers::put_word;
 use numbers::pasting::put_at;
+use sections::parts::Parts;
 use sections::records::steps_before;
-use trade::{Answer, Book, Flow, Node, Plan};
+use trade::{Answer, Book, Flow, Node, Plan, Refusal};
 
 // The ten bytes of a trailer.
 fn trailer_bytes(
@@ -35,21 +37,12 @@ fn trailer_bytes(
 }
 
 // The used places of a table's sections and the trailer, one behind the other.
-fn fill<'a>(
-    nodes: usize,
-    flows: usize,
-    all: usize,
-    rows: &'a [u8],
-    records: &'a [u8],
-    steps: &'a [u8],
-    buffer: &mut [u8],
-)
-    requires { Room (sections nodes flows rows.now records.now steps.now) all (length buffer.old) }
-    ensures { buffer.new
-        ≡ over (book_of (sections nodes flows rows.now records.now steps.now)) buffer.old }
+fn fill(parts: Parts, all: usize, buffer: &mut [u8])
+    requires { Room (sections_held parts) all (length buffer.old) }
+    ensures { buffer.new ≡ over (book_of (sections_held parts.entry)) buffer.old }
 {
-    let row_bytes = Node::ROW_BYTES * nodes;
-    let record_bytes = Flow::RECORD_BYTES * flows;
+    let row_bytes = Node::ROW_BYTES * parts.nodes;
+    let record_bytes = Flow::RECORD_BYTES * parts.flows;
     let step_bytes = Plan::STEP_BYTES * all;
     let steps_distance = step_bytes + Book::TRAILER_BYTES;
     let records_distance = steps_distance + record_bytes;
@@ -58,53 +51,35 @@ fn fill<'a>(
         rows_distance as u16,
         records_distance as u16,
         steps_distance as u16,
-        nodes as u8,
-        flows as u8,
+        parts.nodes as u8,
+        parts.flows as u8,
     );
-    put_at(buffer, 0, &rows[..row_bytes]);
-    put_at(buffer, row_bytes, &records[..record_bytes]);
-    put_at(buffer, row_bytes + record_bytes, &steps[..step_bytes]);
+    put_at(buffer, 0, &parts.rows[..row_bytes]);
+    put_at(buffer, row_bytes, &parts.records[..record_bytes]);
+    put_at(buffer, row_bytes + record_bytes, &parts.steps[..step_bytes]);
     put_at(buffer, row_bytes + record_bytes + step_bytes, &trailer);
 }
 
-// Codes 3, 5, 6 and 8 on a table's sections, then 13; the book at the front of the buffer.
-fn write_sections<'a>(
-    nodes: usize,
-    flows: usize,
-    rows: &'a [u8],
-    records: &'a [u8],
-    steps: &'a [u8],
-    buffer: &mut [u8],
-) -> Answer
-    requires { InMemory (sections nodes flows rows.now records.now steps.now) }
-    ensures { Writes (sections nodes flows rows.now records.now steps.now) buffer.old result buffer.new }
+// Codes 3, 5, 6 and 8 on a table, then 13; the book at the front of the buffer, and its length.
+fn write_table(t: &Table, buffer: &mut [u8]) -> Result<usize, Refusal>
+    ensures { Writes (sections_in t.now) buffer.old (answered (λ len. len) result) buffer.new }
 {
-    let tested = table_answer(nodes, flows, rows, records, steps);
-    if tested.code != 0 {
-        return tested;
-    }
-    let all = steps_before(records, flows);
-    let len = Node::ROW_BYTES * nodes
-        + Flow::RECORD_BYTES * flows
+    let parts = t.parts()?;
+    let all = steps_before(parts.records, parts.flows);
+    let len = Node::ROW_BYTES * parts.nodes
+        + Flow::RECORD_BYTES * parts.flows
         + Plan::STEP_BYTES * all
         + Book::TRAILER_BYTES;
     if buffer.len() < len {
-        return Answer::refused(13, 0);
+        return Err(Refusal::NoRoom);
     }
-    fill(nodes, flows, all, rows, records, steps, buffer);
-    Answer::done(len as u64)
+    fill(parts, all, buffer);
+    Ok(len)
 }
 
 // WRITE: codes 3, 5, 6 and 8 on the table, then 13; the book at the front of the lent buffer, and nothing beyond it touched.
 pub fn write(t: Table, buffer: &mut [u8]) -> Answer
     ensures { Writes (sections_in t) buffer.old result buffer.new }
 {
-    write_sections(
-        t.nodes as usize,
-        t.flows as usize,
-        &t.rows,
-        &t.records,
-        &t.steps,
-        buffer,
-    )
+    write_table(&t, buffer).into()
 }

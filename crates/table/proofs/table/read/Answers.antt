@@ -2,72 +2,52 @@
 -- Assumes nothing.
 use mathlib.Core.Path.{◌≡◌, ◌∙◌, sym, ap}
 use native.Mathlib.Omega.{arith}
-use Rattle.trade.specs.Layout.{sections_of}
+use Rattle.trade.specs.Layout.{Sections, sections_of}
 use Rattle.trade.specs.Calls.{read_answer, read_of}
-use Rattle.book.specs.Frame.{frame_of, Lies, opened_of}
-use Rattle.book.specs.declared.parts.Opened.{Opened}
-use Rattle.book.proofs.OpenBookLaws.{done_lies, open_frame, book_formed, rows_fit, records_fit, steps_fit}
+use Rattle.trade.specs.declared.answer.Answer.{Answer}
+use Rattle.trade.proofs.Refusals.{refuses}
+use Rattle.sections.specs.Parts.{sections_held}
+use Rattle.book.specs.Frame.{frame_of}
+use Rattle.book.proofs.OpenBookLaws.{done_lies, rows_fit, records_fit, steps_fit}
 use Rattle.table.specs.Table.{table_with}
 use Rattle.table.proofs.ReadLaws.{read_refused, read_done}
 use Rattle.table.proofs.table.read.Goals as goal
-use Rattle.table.proofs.table.read.Goals.{Else-answer-ne0}
+use Rattle.table.proofs.table.read.Goals.{In-Ok}
 
--- a book that is done, and where its parts lie
-opened : (c : Else-answer-ne0) → ((read_answer c.args.book.now).code ≡ 0) × (c.open_book-o.result.frame ≡ frame_of c.args.book.now)
-opened c = open_frame c.args.book.now c.open_book-o.result c.open_book-o.ensures c.if-answer-ne0.false
+-- a book that is done, and what its parts hold
+opened : (c : In-Ok) → ((read_answer c.args.book.now).code ≡ 0) × (sections_held c.in-Ok.parts ≡ sections_of c.args.book.now)
+opened c = (sym (ap (λ (a : Answer). a.code) c.in-Ok.ensures.answer), c.in-Ok.ensures.parts)
 
-laid : (c : Else-answer-ne0) → Lies c.args.book.now c.open_book-o.result.frame
-laid c = rw (opened c).1 (done_lies c.args.book.now (opened c).0)
-
-pub returns-then-answer-ne0 : goal.returns-then-answer-ne0
-unfolding opened_of read_of
-returns-then-answer-ne0 c =
-    let book = c.args.book.now in
-    let e = c.open_book-o.ensures in
-    record {
-      answer = ap (λ (o : Opened). o.answer) e;
-      table = c.empty.ensures ∙ sym (read_refused book (λ z. c.if-answer-ne0.true (ap (λ (o : Opened). o.answer.code) e ∙ z)));
-    }
-
-pub overflow_cast-f : goal.overflow_cast-f
-overflow_cast-f c = omega (arith, (laid (goal.at.overflow_cast-f c).Else-answer-ne0).nodes)
-
-pub overflow_cast-f-2 : goal.overflow_cast-f-2
-overflow_cast-f-2 c = omega (arith, (laid (goal.at.overflow_cast-f-2 c).Else-answer-ne0).flows)
-
-pub rows_of-requires : goal.rows_of-requires
-rows_of-requires c = laid (goal.at.rows_of-requires c).Else-answer-ne0
-
-pub records_of-requires : goal.records_of-requires
-records_of-requires c = laid (goal.at.records_of-requires c).Else-answer-ne0
-
-pub steps_of-requires : goal.steps_of-requires
-steps_of-requires c = laid (goal.at.steps_of-requires c).Else-answer-ne0
-
-pub table_of-table-requires : goal.table_of-table-requires
+pub overflow_cast-parts : goal.overflow_cast-parts
 unfolding frame_of sections_of
-table_of-table-requires c =
+overflow_cast-parts c =
+    let (done, held) = opened (goal.at.overflow_cast-parts c).In-Ok in
+    omega (arith, ap (λ (s : Sections). s.nodes) held, (done_lies c.args.book.now done).nodes)
+
+pub table_of-requires-clause-rows_len_bound : goal.table_of-requires-clause-rows_len_bound
+table_of-requires-clause-rows_len_bound c =
     let book = c.args.book.now in
-    let (done, frame) = opened (goal.at.table_of-table-requires c).Else-answer-ne0 in record {
-      rows_len_bound = (
-        rw c.rows_of.ensures (rows_fit book done),
-        rw c.records_of.ensures (records_fit book done),
-        rw c.steps_of.ensures (steps_fit book done),
-      );
-      formed = rw (frame, c.rows_of.ensures, c.records_of.ensures, c.steps_of.ensures) (book_formed book done);
+    let (done, held) = opened (goal.at.table_of-requires-clause-rows_len_bound c).In-Ok in (
+      rw (ap (λ (s : Sections). s.rows) held) (rows_fit book done),
+      rw (ap (λ (s : Sections). s.records) held) (records_fit book done),
+      rw (ap (λ (s : Sections). s.steps) held) (steps_fit book done),
+    )
+
+pub returns-in-Ok : goal.returns-in-Ok
+unfolding read_of
+returns-in-Ok c =
+    let book = c.args.book.now in
+    let (done, held) = opened (goal.at.returns-in-Ok c).In-Ok in
+    record {
+      answer = c.done.ensures ∙ c.in-Ok.ensures.answer;
+      table = c.table_of.ensures ∙ ap (λ (s : Sections). table_with s.nodes s.flows s.rows s.records s.steps) held ∙ sym (read_done book done);
     }
 
-pub returns : goal.returns
-unfolding opened_of read_of frame_of sections_of
-returns c =
-    let book = c.args.book.now in
-    let done = opened (goal.at.returns c).Else-answer-ne0 in
+pub returns-in-Err : goal.returns-in-Err
+unfolding read_of
+returns-in-Err c =
+    let e = c.in-Err.ensures.answer in
     record {
-      answer = ap (λ (o : Opened). o.answer) c.open_book-o.ensures;
-      table =
-          c.table_of-table.ensures
-          ∙ (λ i.
-          table_with (done.1 i).nodes (done.1 i).flows (c.rows_of.ensures i) (c.records_of.ensures i)
-          (c.steps_of.ensures i))
-          ∙ sym (read_done book done.0);
+      answer = c.answer.ensures ∙ e;
+      table = c.empty.ensures ∙ sym (read_refused c.args.book.now (λ z. refuses c.in-Err.refusal (ap (λ (a : Answer). a.code) e ∙ z)));
     }

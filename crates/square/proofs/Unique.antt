@@ -2,6 +2,7 @@
 -- reads in the code, `Post`. Assumes nothing.
 use mathlib.Core.Path.{◌≡◌}
 use Rattle.trade.proofs.Unique.{OneResult, one_result}
+use Rattle.trade.proofs.Refusals.{one_test}
 use Rattle.square.proofs.KeptLaws.{put_one}
 use Rattle.square.proofs.kept.line_from.Kinds as line_from_kinds
 use Rattle.square.proofs.kept.line_from.Reads as line_from
@@ -25,10 +26,10 @@ put_line_unique κs a r r' s s' p q = put_one p q
 pub keep_unique : (κs : _) (a : _) (r r' : _) (s s' : _) → keep.Post κs a r s → keep.Post κs a r' s' → s.1.1.1.1.0.now ≡ s'.1.1.1.1.0.now
 keep_unique κs a r r' s s' p q = one_result p q
 
-pub kept_answer_unique : OneResult 4 kept_answer_kinds.ps kept_answer_kinds.r kept_answer.Post
-kept_answer_unique κs a r r' s s' p q = one_result p q
+pub kept_answer_unique : OneResult 2 kept_answer_kinds.ps kept_answer_kinds.r kept_answer.Post
+kept_answer_unique κs a r r' s s' p q = one_test r r' (one_result p q)
 
-pub pairs_at_unique : OneResult 3 pairs_at_kinds.ps pairs_at_kinds.r pairs_at.Post
+pub pairs_at_unique : OneResult 1 pairs_at_kinds.ps pairs_at_kinds.r pairs_at.Post
 pairs_at_unique κs a r r' s s' p q = one_result p q
 
 pub line_with_unique : OneResult 2 line_with_kinds.ps line_with_kinds.r line_with.Post

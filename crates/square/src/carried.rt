@@ -6,31 +6,29 @@ ghost use Rattle.trade.specs.First.{list_to};
 ghost use Rattle.trade.specs.Bytes.{padded};
 ghost use Rattle.trade.specs.Facts.{facts_in};
 ghost use Rattle.trade.specs.Kept.{figures_room};
-ghost use Rattle.sections.specs.Formed.{Formed};
 ghost use Rattle.square.specs.Carried.{pairs_of, figure_with, in_line, with_figures, out_line, without_figures};
 
 use crate::kept::{line_from, put_line};
 use figures::figures::{figure_at, figures_at, hear_above};
+use sections::parts::Parts;
 use trade::{Flow, Node};
 
 // The figures of the flow at a place with each other flow: those of the flows above it, and what it costs each flow below it.
-pub fn pairs_at(
-    flows: usize,
-    rows: &[u8],
-    records: &[u8],
-    steps: &[u8],
-    place: usize,
-) -> [u32; Flow::MOST]
-    requires { Formed flows rows.now records.now steps.now × (place < flows) }
-    ensures { result ≡ pairs_of flows (facts_in 0 0 rows.now records.now steps.now) place }
+pub fn pairs_at(parts: Parts, place: usize) -> [u32; Flow::MOST]
+    requires { place < parts.flows }
+    ensures { result ≡ pairs_of parts.entry.flows (facts_in 0 0 parts.entry.rows.now parts.entry.records.now parts.entry.steps.now) place }
 {
     let mut heard = [0u64; Node::MOST];
-    hear_above(flows, rows, records, steps, &mut heard);
-    let mut pairs = figures_at(rows, &heard, records, steps, place);
-    let mut l = place + 1;
-    while l < flows {
-        pairs[l] = figure_at(rows, &heard, records, steps, l, place);
-        l += 1;
+    hear_above(
+        parts.flows,
+        parts.rows,
+        parts.records,
+        parts.steps,
+        &mut heard,
+    );
+    let mut pairs = figures_at(parts.rows, &heard, parts.records, parts.steps, place);
+    for l in place + 1..parts.flows {
+        pairs[l] = figure_at(parts.rows, &heard, parts.records, parts.steps, l, place);
     }
     pairs
 }

@@ -5,12 +5,14 @@ ghost use Rattle.trade.specs.First.{some};
 ghost use Rattle.trade.specs.Layout.{sections};
 ghost use Rattle.trade.specs.Facts.{facts_in};
 ghost use Rattle.trade.specs.Kept.{figures_room, figure_in, figures_of, code17};
+ghost use Rattle.trade.specs.Refusals.{tested};
 ghost use Rattle.sections.specs.Formed.{Formed};
 ghost use Rattle.figures.specs.Figures.{AllHeard};
 ghost use Rattle.square.specs.Carried.{shifted, line_from, line_of, LinePut};
 
 use figures::figures::{figures_at, hear_above};
-use trade::{Answer, Flow, Node};
+use sections::parts::Parts;
+use trade::{Flow, Node, Refusal};
 
 // A place below the cut as it is, any other so many places ahead and then back.
 fn shift(h: usize, cut: usize, ahead: usize, back: usize) -> usize
@@ -106,28 +108,26 @@ fn is_line(figures: &[u8], l: usize, line: &[u32; Flow::MOST]) -> bool
 }
 
 // Code 17: a figure of a flow and one above it is wrong; the first such flow.
-pub fn kept_answer(
-    flows: usize,
-    rows: &[u8],
-    records: &[u8],
-    steps: &[u8],
-    figures: &[u8],
-) -> Answer
-    requires { Formed flows rows.now records.now steps.now × (length figures.now ≡ figures_room) }
-    ensures { result ≡ code17 (record {
-      sections = sections 0 flows rows.now records.now steps.now;
+pub fn kept_answer(parts: Parts, figures: &[u8]) -> Result<(), Refusal>
+    requires { length figures.now ≡ figures_room }
+    ensures { tested result ≡ code17 (record {
+      sections = sections 0 parts.entry.flows parts.entry.rows.now parts.entry.records.now parts.entry.steps.now;
       figures = figures.now;
     }) }
 {
     let mut heard = [0u64; Node::MOST];
-    hear_above(flows, rows, records, steps, &mut heard);
-    let mut l = 0;
-    while l < flows {
-        let line = figures_at(rows, &heard, records, steps, l);
+    hear_above(
+        parts.flows,
+        parts.rows,
+        parts.records,
+        parts.steps,
+        &mut heard,
+    );
+    for l in 0..parts.flows {
+        let line = figures_at(parts.rows, &heard, parts.records, parts.steps, l);
         if !is_line(figures, l, &line) {
-            return Answer::refused(17, l as u64);
+            return Err(Refusal::BadFigure(l));
         }
-        l += 1;
     }
-    Answer::done(0)
+    Ok(())
 }

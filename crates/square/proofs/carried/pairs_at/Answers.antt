@@ -15,7 +15,7 @@ use Rattle.square.proofs.carried.pairs_at.Goals as goal
 
 pub hear_above-requires : goal.hear_above-requires
 hear_above-requires c = record {
-  formed = c.requires.0;
+  formed = c.args.parts.formed;
   heard_len = (refl, λ y h. zeros 64 y);
 }
 
@@ -26,19 +26,16 @@ pub figures_at-pairs-requires : goal.figures_at-pairs-requires
 figures_at-pairs-requires c =
     let a = c.args in
     let heard = c.hear_above.ensures in record {
-      formed = formed_less (a.place + 1) a.flows a.rows.now a.records.now a.steps.now (omega (arith, c.requires.1)) c.requires.0;
-      most_nodes_in_bounds = (omega (arith, heard.size), all_heard a.flows a.place a.rows.now a.records.now a.steps.now _ c.requires.0 c.requires.1 heard);
+      formed = formed_less (a.place + 1) a.parts.flows a.parts.rows.now a.parts.records.now a.parts.steps.now (omega (arith, c.requires)) c.args.parts.formed;
+      most_nodes_in_bounds = (omega (arith, heard.size), all_heard a.parts.flows a.place a.parts.rows.now a.parts.records.now a.parts.steps.now _ c.args.parts.formed c.requires heard);
     }
-
-pub overflow_add-l : goal.overflow_add-l
-overflow_add-l c = omega (arith, c.requires.1, c.requires.0.most)
 
 pub loop-l-init : goal.loop-l-init
 loop-l-init c =
     let a = c.args in (
       omega arith,
-      omega (arith, c.requires.1),
-      c.figures_at-pairs.ensures ∙ pairs_begun a.flows (facts_in 0 0 a.rows.now a.records.now a.steps.now) a.place c.requires.0.most c.requires.1,
+      omega (arith, c.requires),
+      c.figures_at-pairs.ensures ∙ pairs_begun a.parts.flows (facts_in 0 0 a.parts.rows.now a.parts.records.now a.parts.steps.now) a.place c.args.parts.formed.most c.requires,
     )
 
 pub slice_bounds-figure_at-end : goal.slice_bounds-figure_at-end
@@ -50,31 +47,28 @@ figure_at-requires c =
     let l : ℕ = c.loop-l.l in
     let heard = c.hear_above.ensures in record {
       formed = (
-        formed_less (l + 1) a.flows a.rows.now a.records.now a.steps.now (omega (arith, c.loop-l-test.true)) c.requires.0,
+        formed_less (l + 1) a.parts.flows a.parts.rows.now a.parts.records.now a.parts.steps.now (omega (arith, c.loop-l-test.true)) c.args.parts.formed,
         omega (arith, c.loop-l.invariant.0),
       );
-      most_nodes_in_bounds = (omega (arith, heard.size), all_heard a.flows l a.rows.now a.records.now a.steps.now _ c.requires.0 c.loop-l-test.true heard);
+      most_nodes_in_bounds = (omega (arith, heard.size), all_heard a.parts.flows l a.parts.rows.now a.parts.records.now a.parts.steps.now _ c.args.parts.formed c.loop-l-test.true heard);
     }
 
 pub loop-l-preserved : goal.loop-l-preserved
 loop-l-preserved c =
     let a = c.args in
     let loop = c.loop-l in
-    let f : Facts = facts_in 0 0 a.rows.now a.records.now a.steps.now in (
+    let f : Facts = facts_in 0 0 a.parts.rows.now a.parts.records.now a.parts.steps.now in (
       omega (arith, loop.invariant.0),
       omega (arith, c.loop-l-test.true),
-      rw (c.figure_at.ensures, ← pair_below a.flows f a.place c.requires.0.most c.requires.1 loop.l loop.invariant.0, loop.invariant.2)
-          (filled_more most_flows (pair_in f a.place) loop.l (omega (arith, c.loop-l-test.true, c.requires.0.most))),
+      rw (c.figure_at.ensures, ← pair_below a.parts.flows f a.place c.args.parts.formed.most c.requires loop.l loop.invariant.0, loop.invariant.2)
+          (filled_more most_flows (pair_in f a.place) loop.l (omega (arith, c.loop-l-test.true, c.args.parts.formed.most))),
     )
 
 pub returns : goal.returns
 returns c =
     let loop = c.loop-l in
-    let all : loop.l ≡ c.args.flows = omega (arith, loop.invariant.1, c.loop-l-test.false) in
+    let all : loop.l ≡ c.args.parts.flows = omega (arith, loop.invariant.1, c.loop-l-test.false) in
     rw (← all) loop.invariant.2
 
 pub bounds-pairs-l : goal.bounds-pairs-l
-bounds-pairs-l c = omega (arith, c.loop-l-test.true, c.requires.0.most)
-
-pub overflow_add-l-in-loop-l : goal.overflow_add-l-in-loop-l
-overflow_add-l-in-loop-l c = omega (arith, c.loop-l-test.true, c.requires.0.most)
+bounds-pairs-l c = omega (arith, c.loop-l-test.true, c.args.parts.formed.most)

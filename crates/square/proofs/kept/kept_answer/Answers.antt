@@ -3,6 +3,8 @@
 use Prim.Native.Nat.{ℕ, ◌+◌}
 use mathlib.Core.Path.{◌≡◌, refl, sym, ◌∙◌, ap}
 use mathlib.Core.Bool.{not}
+use mathlib.Core.List.{List}
+use Rattle.sections.specs.declared.parts.Parts.{Parts}
 use borrow.Author.Count.{below_more}
 use borrow.Author.Tests.{not-true, not-false}
 use native.Mathlib.Omega.{arith}
@@ -14,14 +16,14 @@ use Rattle.figures.proofs.FiguresLaws.{all_heard}
 use Rattle.square.proofs.KeptLaws.{wrong_line_lem}
 use Rattle.square.proofs.kept.kept_answer.Goals as goal
 use Rattle.square.proofs.kept.kept_answer.Invariants.{table}
-use Rattle.square.proofs.kept.kept_answer.Goals.{After-is_line, Start}
+use Rattle.square.proofs.kept.kept_answer.Goals.{After-is_line}
 
-abbrev own : Start → Tabled
-own s = table s.args.flows s.args.rows.now s.args.records.now s.args.steps.now s.args.figures.now
+abbrev own : Parts → List ℕ → Tabled
+own p figures = table p.flows p.rows.now p.records.now p.steps.now figures
 
 pub hear_above-requires : goal.hear_above-requires
 hear_above-requires c = record {
-  formed = c.requires.0;
+  formed = c.args.parts.formed;
   heard_len = (refl, λ y h. zeros 64 y);
 }
 
@@ -36,27 +38,26 @@ figures_at-line-requires c =
     let a = c.args in
     let l : ℕ = c.loop-l.l in
     let heard = c.hear_above.ensures in record {
-      formed = formed_less (l + 1) a.flows a.rows.now a.records.now a.steps.now (omega arith) c.requires.0;
-      most_nodes_in_bounds = (omega (arith, heard.size), all_heard a.flows l a.rows.now a.records.now a.steps.now _ c.requires.0 (omega arith) heard);
+      formed = formed_less (l + 1) a.parts.flows a.parts.rows.now a.parts.records.now a.parts.steps.now (omega arith) a.parts.formed;
+      most_nodes_in_bounds = (omega (arith, heard.size), all_heard a.parts.flows l a.parts.rows.now a.parts.records.now a.parts.steps.now _ a.parts.formed (omega arith) heard);
     }
 
 pub is_line-requires : goal.is_line-requires
-is_line-requires c = (c.requires.1, omega (arith, c.requires.0.most))
+is_line-requires c = (c.requires, omega (arith, c.args.parts.formed.most))
 
 -- whether the line is right
-right : (c : After-is_line) → c.is_line.result ≡ not (wrong_line (own c.before.before.before.before.before.before.before.before.before.before.before.before.before.before) c.loop-l.l)
+right : (c : After-is_line) → c.is_line.result ≡ not (wrong_line (own c.args.parts c.args.figures.now) c.loop-l.l)
 right c =
     let a = c.args in
     rw c.figures_at-line.ensures at c.is_line.ensures
-    ∙ ap not (wrong_line_lem a.flows a.rows.now a.records.now a.steps.now a.figures.now c.loop-l.l)
+    ∙ ap not (wrong_line_lem a.parts.flows a.parts.rows.now a.parts.records.now a.parts.steps.now a.figures.now c.loop-l.l)
 
 pub returns-then-not-is_line : goal.returns-then-not-is_line
 unfolding code17
 returns-then-not-is_line c =
     let loop = c.loop-l in
-    c.refused.ensures
-    ∙ sym
-    (given_first_at 17 (wrong_line (own (goal.at.returns-then-not-is_line c).Start)) c.args.flows loop.l (omega arith) loop.invariant.1
+    sym
+    (given_first_at 17 (wrong_line (own c.args.parts c.args.figures.now)) c.args.parts.flows loop.l (omega arith) loop.invariant.1
     (not-false _ (sym (right (goal.at.returns-then-not-is_line c).After-is_line) ∙ c.if-not-is_line.true)))
 
 pub loop-l-preserved : goal.loop-l-preserved
@@ -65,4 +66,4 @@ loop-l-preserved c = (omega arith, below_more _ _ c.loop-l.invariant.1 (not-true
 pub returns : goal.returns
 unfolding code17
 returns c =
-    c.done.ensures ∙ sym (given_first_none 17 (wrong_line (own (goal.at.returns c).Start)) c.args.flows (λ k h. c.loop-l.invariant.1 k (omega arith)))
+    sym (given_first_none 17 (wrong_line (own c.args.parts c.args.figures.now)) c.args.parts.flows (λ k h. c.loop-l.invariant.1 k (omega arith)))

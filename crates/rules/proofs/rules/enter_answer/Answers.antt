@@ -9,13 +9,12 @@ use Rattle.rules.proofs.rules.enter_answer.Goals as goal
 
 pub returns-then-flows-eq-MOST : goal.returns-then-flows-eq-MOST
 unfolding is_done code14 given facts_of
-returns-then-flows-eq-MOST c = c.refused.ensures ∙ sym (first_of_rule code14 _ no_number _ ∙ rw (eq-eqb _ _ c.if-flows-eq-MOST.true))
+returns-then-flows-eq-MOST c = sym (first_of_rule code14 _ no_number _ ∙ rw (eq-eqb _ _ c.if-flows-eq-MOST.true))
 
 pub returns-then-flows-place : goal.returns-then-flows-place
 unfolding is_done code14 code15_adding given facts_of
 returns-then-flows-place c =
-    c.refused-then-flows-place.ensures
-    ∙ sym
+    sym
     (first_of_rule code14 _ no_number _
     ∙ rw (ne_eqb _ _ c.if-flows-eq-MOST.false)
     (first_of_rule _ _ no_number _ ∙ rw (lt-ltb _ _ c.if-flows-place.true)))
@@ -23,7 +22,6 @@ returns-then-flows-place c =
 pub returns : goal.returns
 unfolding code14 code15_adding given facts_of
 returns c =
-    c.done.ensures
-    ∙ sym
+    sym
     (passed_done no_number
     (passed_more (rw (ne_eqb _ _ c.if-flows-eq-MOST.false)) (passed_more (rw (le-ltb _ _ c.if-flows-place.false)) passed_none)))

@@ -1,31 +1,32 @@
 -- `rules::rules::new_answer` meets its contract: each code is that of what the table says, the first refusal is the answer, and the figures
 -- are those of the table or, where it is refused, as they were. Assumes nothing.
-use Prim.Native.Nat.{ℕ, ◌*◌, ◌≤◌, ◌<◌}
-use mathlib.Core.Path.{◌≡◌, sym, ◌∙◌, ap}
+use Prim.Native.Nat.{ℕ, ◌<◌}
+use mathlib.Core.Path.{◌≡◌, refl, sym, ◌∙◌, ap}
 use mathlib.Core.List.{List, []}
-use lib.ListN.{length, get_or}
-use Rattle.trade.specs.Limits.{step_bytes}
+use lib.ListN.{get_or}
+use Rattle.std.specs.Prelude.{Result, IsErrAnd}
 use Rattle.trade.specs.Layout.{Sections, sections}
-use Rattle.trade.specs.Facts.{Facts, facts_of, facts_in, first_step, all_steps}
-use Rattle.trade.specs.Answers.{first_of, no_number}
+use Rattle.trade.specs.Facts.{facts_of, facts_in, first_step, all_steps}
+use Rattle.trade.specs.Answers.{done, first_of, no_number}
 use Rattle.trade.specs.Codes.{code6, code8}
 use Rattle.trade.specs.Calls.{new_rules, new_rules_by}
+use Rattle.trade.specs.Refusals.{answer_of, tested}
 use Rattle.trade.specs.declared.answer.Answer.{Answer}
+use Rattle.trade.specs.declared.refusal.Refusal.{Refusal}
 use Rattle.trade.proofs.Answers.{done_first, refused_second, first_of_refuse, first_of_pass}
+use Rattle.trade.proofs.Refusals.{refuses, handed_on}
 use Rattle.trade.proofs.Kept.{figures_counted}
 use Rattle.sections.specs.Formed.{Formed}
 use Rattle.sections.proofs.OwnSections.{code6_records, code8_steps}
 use Rattle.sections.proofs.FormedLaws.{formed_by}
-use Rattle.trade.specs.Bound.{fairly}
-use Rattle.square.specs.Carried.{figure_with, with_figures}
-use Rattle.bounds.specs.Bounds.{bounded_in}
-use Rattle.bounds.specs.declared.bounds.Checked.{Checked}
+use Rattle.square.specs.Carried.{with_figures}
+use Rattle.bounds.specs.Bounds.{refused_by}
 use Rattle.table.proofs.CheckedLaws.{formed_timed}
-use Rattle.rules.specs.Rules.{NewFigures}
+use Rattle.rules.specs.Rules.{New, NewFigures}
 use Rattle.square.proofs.CarriedLaws.{formed_pairs, with_figures_lem}
-use Rattle.rules.proofs.RulesLaws.{new_nine, with_nine}
+use Rattle.rules.proofs.RulesLaws.{nine_answered}
 use Rattle.rules.proofs.rules.new_answer.Goals as goal
-use Rattle.rules.proofs.rules.new_answer.Goals.{After-bounds_with, After-pairs_at-pairs, After-records_answer-named, After-steps_answer-stepped, Else-named-ne0, Else-stepped-ne0, Start}
+use Rattle.rules.proofs.rules.new_answer.Goals.{After-bounds_with, After-pairs_at-pairs, In_ok-records_answer, In_ok-steps_answer, Start}
 
 abbrev coded : Answer → ℕ
 coded a = a.code
@@ -35,98 +36,106 @@ abbrev given : Start → Sections
 given s = sections s.args.nodes s.args.flows s.args.rows.now s.args.records.now s.args.steps.now
 
 -- refused before the figures are touched
-untouched : (s : Start) (r : Answer) → r ≡ first_of new_rules no_number (given s) → (r.code ≡ 0 → ⊥) → NewFigures (given s) s.args.figures.now r s.args.figures.now
-untouched s r e n = record { answer = e; figures = sym (refused_second r _ _ n) }
+untouched :
+    (t : Sections) (old : List ℕ) (r : Result Unit Refusal) (e : Refusal)
+    → IsErrAnd r (λ x. x ≡ e)
+    → answer_of e ≡ first_of new_rules no_number t
+    → NewFigures t old (tested r) old
+untouched t old r e h a =
+    let same = handed_on r e h in
+    record { answer = same ∙ a; figures = sym (refused_second (tested r) _ _ (λ z. refuses e (sym (ap coded same) ∙ z))) }
 
--- code 6, and what its passing says of the plans
-six : (c : After-records_answer-named) → c.records_answer-named.result ≡ code6 (facts_of (given c.before.before.before.before.before.before))
-six c = c.records_answer-named.ensures ∙ code6_records (given c.before.before.before.before.before.before)
+-- what the passing of codes 6 and 8 says
+six : (c : In_ok-records_answer) → (t : Sections) → code6 (facts_in 0 c.args.flows [] c.args.records.now []) ≡ code6 (facts_of t) → (code6 (facts_of t)).code ≡ 0
+six c t e = sym (ap coded (c.in_ok-records_answer.ensures ∙ e))
 
-six_passes : (c : Else-named-ne0) → (code6 (facts_of (given c.before.before.before.before.before.before.before.before))).code ≡ 0
-six_passes c = sym (ap coded (six (record { before = c.before.before.before; type_inv = record { figures = c.type_inv.figures; steps = c.type_inv.steps; records = c.type_inv.records; rows = c.type_inv.rows } }))) ∙ c.if-named-ne0.false
+eight : (c : In_ok-steps_answer) → (t : Sections) → code8 (facts_in c.args.nodes c.args.flows [] c.args.records.now c.args.steps.now) ≡ code8 (facts_of t) → (code8 (facts_of t)).code ≡ 0
+eight c t e = sym (ap coded (c.in_ok-steps_answer.ensures ∙ e))
 
-plans_fit : (c : Else-named-ne0) → step_bytes * all_steps (facts_of (given c.before.before.before.before.before.before.before.before)) ≤ length (given c.before.before.before.before.before.before.before.before).steps
-plans_fit c = c.requires.new.steps (six_passes c)
-
--- code 8
-eight : (c : After-steps_answer-stepped) → c.steps_answer-stepped.result ≡ code8 (facts_of (given c.before.before.before.before.before.before.before.before.before))
-eight c = c.steps_answer-stepped.ensures ∙ code8_steps (given c.before.before.before.before.before.before.before.before.before)
-
-eight_passes : (c : Else-stepped-ne0) → (code8 (facts_of (given c.before.before.before.before.before.before.before.before.before.before.before))).code ≡ 0
-eight_passes c = sym (ap coded (eight (record { before = c.before.before.before; type_inv = record { figures = c.type_inv.figures; steps = c.type_inv.steps; records = c.type_inv.records; rows = c.type_inv.rows } }))) ∙ c.if-stepped-ne0.false
-
-formed : (c : Else-stepped-ne0) → Formed c.args.flows c.args.rows.now c.args.records.now c.args.steps.now
-formed c =
-    let new = c.requires.new in
-    formed_by (given c.before.before.before.before.before.before.before.before.before.before.before) new.nodes new.flows new.rows new.records (plans_fit (record { before = c.before.before.before.before; type_inv = record { figures = c.type_inv.figures; steps = c.type_inv.steps; records = c.type_inv.records; rows = c.type_inv.rows } })) (six_passes (record { before = c.before.before.before.before; type_inv = record { figures = c.type_inv.figures; steps = c.type_inv.steps; records = c.type_inv.records; rows = c.type_inv.rows } })) (eight_passes c)
-
-pub returns-then-named-ne0 : goal.returns-then-named-ne0
+pub returns-in_err-records_answer : goal.returns-in_err-records_answer
 unfolding new_rules_by
-returns-then-named-ne0 c =
-    let e = six (goal.at.returns-then-named-ne0 c).After-records_answer-named in
-    untouched (goal.at.returns-then-named-ne0 c).Start _ (e ∙ sym (first_of_refuse _ _ no_number (given (goal.at.returns-then-named-ne0 c).Start) (λ z. c.if-named-ne0.true (ap coded e ∙ z)))) c.if-named-ne0.true
+returns-in_err-records_answer c =
+    let t = given (goal.at.returns-in_err-records_answer c).Start in
+    let e = c.in_err-records_answer.field-0.0 in
+    let a = c.in_err-records_answer.ensures ∙ code6_records t in
+    untouched t c.args.figures.now c.from_residual.result e c.from_residual.ensures.1
+    (a ∙ sym (first_of_refuse _ _ no_number t (λ z. refuses e (ap coded a ∙ z))))
 
-pub steps_answer-stepped-requires : goal.steps_answer-stepped-requires
+pub steps_answer-requires : goal.steps_answer-requires
 unfolding facts_of first_step all_steps
-steps_answer-stepped-requires c =
+steps_answer-requires c =
+    let p = goal.at.steps_answer-requires c in
+    let t = given p.Start in
     let new = c.requires.new in
     record {
       flows_le_most_flows = (new.flows, new.records);
-      flows_in_bounds = plans_fit (goal.at.steps_answer-stepped-requires c).Else-named-ne0;
+      flows_in_bounds = new.steps (six p.In_ok-records_answer t (code6_records t));
     }
 
-pub returns-then-stepped-ne0 : goal.returns-then-stepped-ne0
+pub returns-in_err-steps_answer : goal.returns-in_err-steps_answer
 unfolding new_rules_by
-returns-then-stepped-ne0 c =
-    let e = eight (goal.at.returns-then-stepped-ne0 c).After-steps_answer-stepped in
-    untouched (goal.at.returns-then-stepped-ne0 c).Start _
-    (e
+returns-in_err-steps_answer c =
+    let p = goal.at.returns-in_err-steps_answer c in
+    let t = given p.Start in
+    let e = c.in_err-steps_answer.field-0.0 in
+    let a = c.in_err-steps_answer.ensures ∙ code8_steps t in
+    untouched t c.args.figures.now c.from_residual-in_err-steps_answer.result e c.from_residual-in_err-steps_answer.ensures.1
+    (a
     ∙ sym
-    (first_of_pass _ _ no_number (given (goal.at.returns-then-stepped-ne0 c).Start) (six_passes (goal.at.returns-then-stepped-ne0 c).Else-named-ne0)
-    ∙ first_of_refuse _ _ no_number (given (goal.at.returns-then-stepped-ne0 c).Start) (λ z. c.if-stepped-ne0.true (ap coded e ∙ z))))
-    c.if-stepped-ne0.true
+    (first_of_pass _ _ no_number t (six p.In_ok-records_answer t (code6_records t))
+    ∙ first_of_refuse _ _ no_number t (λ z. refuses e (ap coded a ∙ z))))
 
-pub pairs_at-pairs-requires : goal.pairs_at-pairs-requires
-pairs_at-pairs-requires c = (formed (goal.at.pairs_at-pairs-requires c).Else-stepped-ne0, c.requires.carried.within)
+formed : (t : Sections) → New t → (code6 (facts_of t)).code ≡ 0 → (code8 (facts_of t)).code ≡ 0 → Formed t.flows t.rows t.records t.steps
+formed t new six eight = formed_by t new.nodes new.flows new.rows new.records (new.steps six) six eight
 
--- the pairs are bytes, and with them the figures of before decide
-bytes :
-    (c : After-pairs_at-pairs)
-    → (i : ℕ)
-    → get_or c.pairs_at-pairs.result i 0 < 256
-bytes c i = rw c.pairs_at-pairs.ensures (formed_pairs _ _ _ _ _ (formed (record { before = c.before.before; type_inv = record { figures = c.type_inv.figures; steps = c.type_inv.steps; records = c.type_inv.records; rows = c.type_inv.rows } })) c.requires.carried.within i)
+pub invariant_of-parts : goal.invariant_of-parts
+invariant_of-parts c =
+    let p = goal.at.invariant_of-parts c in
+    let t = given p.Start in
+    record { formed = formed t c.requires.new (six p.In_ok-records_answer t (code6_records t)) (eight p.In_ok-steps_answer t (code8_steps t)) }
+
+-- the pairs are bytes
+bytes : (c : After-pairs_at-pairs) → Formed c.args.flows c.args.rows.now c.args.records.now c.args.steps.now → (i : ℕ) → get_or c.pairs_at-pairs.result i 0 < 256
+bytes c f i = rw c.pairs_at-pairs.ensures (formed_pairs _ _ _ _ _ f c.requires.carried.within i)
 
 pub bounds_with-requires : goal.bounds_with-requires
-bounds_with-requires c = (formed_timed _ _ _ _ (formed (goal.at.bounds_with-requires c).Else-stepped-ne0), c.requires.carried.size, bytes (goal.at.bounds_with-requires c).After-pairs_at-pairs)
+bounds_with-requires c =
+    let p = goal.at.bounds_with-requires c in
+    let t = given p.Start in
+    let f = formed t c.requires.new (six p.In_ok-records_answer t (code6_records t)) (eight p.In_ok-steps_answer t (code8_steps t)) in
+    (formed_timed _ _ _ _ f, c.requires.carried.size, bytes p.After-pairs_at-pairs f)
 
-nine : (c : After-bounds_with) → c.bounds_with.result.answer ≡ first_of new_rules no_number (given c.before.before.before.before.before.before.before.before.before.before.before.before.before.before)
-nine c =
-    let a = c.args in
-    let f : Facts = facts_in 0 0 a.rows.now a.records.now a.steps.now in
-    let six_passed = six_passes (record { before = c.before.before.before.before.before.before.before; type_inv = record { figures = c.before.before.before.before.before.before.before.slice_known-1.given; steps = c.type_inv.steps; records = c.type_inv.records; rows = c.type_inv.rows } }) in
-    ap (λ (r : Checked). r.answer) c.bounds_with.ensures
-    ∙ ap (λ (pairs : List ℕ). (bounded_in (facts_in 0 a.flows [] a.records.now []) (fairly (facts_in 0 a.flows [] a.records.now []) (figure_with a.place pairs a.figures.now))).answer) c.pairs_at-pairs.ensures
-    ∙ with_nine (given c.before.before.before.before.before.before.before.before.before.before.before.before.before.before) a.place a.figures.now c.requires.new.flows (c.requires.carried.right six_passed)
-    ∙ sym (new_nine (given c.before.before.before.before.before.before.before.before.before.before.before.before.before.before) six_passed (eight_passes (record { before = c.before.before.before.before; type_inv = record { figures = c.before.before.before.before.slice_known-1.given; steps = c.type_inv.steps; records = c.type_inv.records; rows = c.type_inv.rows } })))
-
-pub returns-then-answer-ne0 : goal.returns-then-answer-ne0
-returns-then-answer-ne0 c = untouched (goal.at.returns-then-answer-ne0 c).Start _ (nine (goal.at.returns-then-answer-ne0 c).After-bounds_with) c.if-answer-ne0.true
+pub returns-in_err-bounds_with : goal.returns-in_err-bounds_with
+returns-in_err-bounds_with c =
+    let p = goal.at.returns-in_err-bounds_with c in
+    let t = given p.Start in
+    let e = c.in_err-bounds_with.field-0.0 in
+    let six = six p.In_ok-records_answer t (code6_records t) in
+    untouched t c.args.figures.now c.from_residual-in_err-bounds_with.result e c.from_residual-in_err-bounds_with.ensures.1
+    (nine_answered t c.args.place c.args.figures.now c.pairs_at-pairs.result (refused_by (answer_of e)) c.requires.new.flows six
+    (eight p.In_ok-steps_answer t (code8_steps t)) (c.requires.carried.right six) c.pairs_at-pairs.ensures c.in_err-bounds_with.ensures)
 
 pub figures_in-requires : goal.figures_in-requires
-figures_in-requires c = (c.requires.carried.size, bytes (goal.at.figures_in-requires c).After-pairs_at-pairs)
+figures_in-requires c =
+    let p = goal.at.figures_in-requires c in
+    let t = given p.Start in
+    (c.requires.carried.size, bytes p.After-pairs_at-pairs (formed t c.requires.new (six p.In_ok-records_answer t (code6_records t)) (eight p.In_ok-steps_answer t (code8_steps t))))
 
 pub returns : goal.returns
 returns c =
     let a = c.args in
+    let p = goal.at.returns c in
+    let t = given p.Start in
+    let six = six p.In_ok-records_answer t (code6_records t) in
+    let nine =
+    nine_answered t a.place a.figures.now c.pairs_at-pairs.result (record { answer = done 0; bounds = c.in_ok-bounds_with.field-0 }) c.requires.new.flows six
+    (eight p.In_ok-steps_answer t (code8_steps t)) (c.requires.carried.right six) c.pairs_at-pairs.ensures c.in_ok-bounds_with.ensures in
     record {
-      answer = nine (goal.at.returns c).After-bounds_with;
+      answer = nine;
       figures =
           c.figures_in.ensures
           ∙ ap (λ (pairs : List ℕ). with_figures a.flows a.place pairs a.figures.now) c.pairs_at-pairs.ensures
-          ∙ with_figures_lem a.flows a.place a.rows.now a.records.now a.steps.now a.figures.now (c.requires.carried.right (six_passes (goal.at.returns c).Else-named-ne0)) c.requires.new.flows
+          ∙ with_figures_lem a.flows a.place a.rows.now a.records.now a.steps.now a.figures.now (c.requires.carried.right six) c.requires.new.flows
           ∙ figures_counted 0 a.nodes a.flows a.rows.now a.records.now a.steps.now
-          ∙ sym (done_first c.bounds_with.result.answer _ _ c.if-answer-ne0.false);
+          ∙ sym (done_first (done 0) _ _ refl);
     }
-
-pub records_answer-named-requires : goal.records_answer-named-requires
-records_answer-named-requires c = c.requires.new.records

@@ -1,6 +1,6 @@
 // Adding a flow to a table at a place, and removing one. The rules are tested in their order: on the old table, on the place, on the new
-// table. The old table is handed back where one of them refuses. A change is made where the sections lie, in one copy of them: each move
-// of a table by value would be another on the stack.
+// table. The old table is handed back where one of them refuses. A change is made in one copy of the table: each further move by value would be another on the
+// stack.
 ghost use Rattle.changes.specs.Change.{Adds, Removes};
 ghost use Rattle.table.specs.Table.{kept_in};
 
@@ -21,62 +21,16 @@ pub struct Changed {
 pub fn add(t: Table, place: usize, flow: Flow, plan: [u8; Plan::MOST * Plan::STEP_BYTES]) -> Changed
     ensures { Adds (record { table = kept_in t; place = place; flow = flow; plan = plan }) result }
 {
-    let mut flows = t.flows;
-    let mut rows = t.rows;
-    let mut records = t.records;
-    let mut steps = t.steps;
-    let mut figures = t.figures;
-    let answer = enter(
-        t.nodes,
-        &mut flows,
-        &mut rows,
-        &mut records,
-        &mut steps,
-        &mut figures,
-        place,
-        flow,
-        plan,
-    );
-    Changed {
-        answer,
-        table: Table {
-            nodes: t.nodes,
-            flows,
-            rows,
-            records,
-            steps,
-            figures,
-        },
-    }
+    let mut table = t;
+    let answer = enter(&mut table, place, flow, plan).into();
+    Changed { answer, table }
 }
 
 // REMOVE the flow at a place: codes 3, 5, 6, 8 and 17, then 15. Refused, the table as handed in.
 pub fn remove(t: Table, place: usize) -> Changed
     ensures { Removes (record { table = kept_in t; place = place }) result }
 {
-    let mut flows = t.flows;
-    let mut rows = t.rows;
-    let mut records = t.records;
-    let mut steps = t.steps;
-    let mut figures = t.figures;
-    let answer = leave(
-        t.nodes,
-        &mut flows,
-        &mut rows,
-        &mut records,
-        &mut steps,
-        &mut figures,
-        place,
-    );
-    Changed {
-        answer,
-        table: Table {
-            nodes: t.nodes,
-            flows,
-            rows,
-            records,
-            steps,
-            figures,
-        },
-    }
+    let mut table = t;
+    let answer = leave(&mut table, place).into();
+    Changed { answer, table }
 }

@@ -1,8 +1,9 @@
 // A flow that comes into the lent sections of a table, at a place.
 ghost use Rattle.std.specs.Prelude.{◌≡◌, min};
 ghost use Rattle.trade.specs.Limits.{most_steps};
-ghost use Rattle.trade.specs.Kept.{tabled, KeptInMemory};
 ghost use Rattle.trade.specs.Calls.{record_of, add_of};
+ghost use Rattle.trade.specs.Refusals.{tested};
+ghost use Rattle.table.specs.Table.{kept_in};
 ghost use Rattle.changes.specs.Change.{Returns};
 ghost use Rattle.changes.specs.Moved.{Coming, Comes};
 
@@ -10,7 +11,8 @@ use cut::cut::{clear, put_in, take_out};
 use numbers::numbers::put_word;
 use rules::rules::{enter_answer, old_answer, used_answer};
 use sections::records::steps_before;
-use trade::{Answer, Flow, Node, Plan};
+use table::table::Table;
+use trade::{Flow, Node, Plan, Refusal};
 
 // A flow's record, ten bytes.
 fn record_bytes(f: Flow) -> [u8; Flow::RECORD_BYTES]
@@ -30,99 +32,71 @@ fn record_bytes(f: Flow) -> [u8; Flow::RECORD_BYTES]
 fn places_taken(f: Flow) -> usize
     ensures { result ≡ min f.len most_steps }
 {
-    let len = f.len as usize;
-    if Plan::MOST < len {
-        return Plan::MOST;
-    }
-    len
+    (f.len as usize).min(Plan::MOST)
 }
 
 // A flow with this record and these steps put in, and codes 6, 8 and 9 on the table with it. Done, the unused places are zero and the
 // figures those of the new table; refused, it is taken out again.
-fn flow_in(
-    nodes: usize,
-    flows: &mut u8,
-    rows: &mut [u8],
-    records: &mut [u8],
-    steps: &mut [u8],
-    figures: &mut [u8],
-    place: usize,
-    flow: &mut [u8],
-    plan: &mut [u8],
-) -> Answer
-    requires { Coming (tabled nodes flows.old rows.old records.old steps.old figures.old) place flow.old plan.old }
-    ensures { Comes (tabled nodes flows.old rows.old records.old steps.old figures.old) place
-        flow.old plan.old result
-        (tabled nodes flows.new rows.new records.new steps.new figures.new) }
+fn flow_in(table: &mut Table, place: usize, flow: &mut [u8], plan: &mut [u8]) -> Result<(), Refusal>
+    requires { Coming (kept_in table.old) place flow.old plan.old }
+    ensures { Comes (kept_in table.old) place flow.old plan.old (tested result) (kept_in table.new) }
 {
-    let count = *flows as usize;
+    let nodes = table.nodes as usize;
+    let count = table.flows as usize;
     let at = Flow::RECORD_BYTES * place;
     let end = Flow::RECORD_BYTES * count;
-    let step_at = Plan::STEP_BYTES * steps_before(records, place);
-    let step_end = Plan::STEP_BYTES * steps_before(records, count);
+    let step_at = Plan::STEP_BYTES * steps_before(&table.records, place);
+    let step_end = Plan::STEP_BYTES * steps_before(&table.records, count);
     let new_end = step_end + plan.len();
-    put_in(records, at, end, flow);
-    put_in(steps, step_at, step_end, plan);
-    let answer = used_answer(
+    put_in(&mut table.records, at, end, flow);
+    put_in(&mut table.steps, step_at, step_end, plan);
+    match used_answer(
         nodes,
         count + 1,
-        rows,
-        records,
-        steps,
+        &table.rows,
+        &table.records,
+        &table.steps,
         new_end,
         place,
-        figures,
-    );
-    if answer.code != 0 {
-        take_out(records, at, end, flow);
-        take_out(steps, step_at, step_end, plan);
-        return answer;
+        &mut table.figures,
+    ) {
+        Ok(()) => {
+            table.flows = (count + 1) as u8;
+            clear(&mut table.rows, Node::ROW_BYTES * nodes);
+            clear(&mut table.records, Flow::RECORD_BYTES * (count + 1));
+            clear(&mut table.steps, new_end);
+            Ok(())
+        }
+        Err(refusal) => {
+            take_out(&mut table.records, at, end, flow);
+            take_out(&mut table.steps, step_at, step_end, plan);
+            Err(refusal)
+        }
     }
-    *flows = (count + 1) as u8;
-    clear(rows, Node::ROW_BYTES * nodes);
-    clear(records, Flow::RECORD_BYTES * (count + 1));
-    clear(steps, new_end);
-    answer
 }
 
 // Codes 3, 5, 6, 8 and 17 on the table, 14 and 15, then 6, 8 and 9 on the one with the flow. Refused, the table stays as it is.
 pub(crate) fn enter(
-    nodes: u8,
-    flows: &mut u8,
-    rows: &mut [u8],
-    records: &mut [u8],
-    steps: &mut [u8],
-    figures: &mut [u8],
+    table: &mut Table,
     place: usize,
     flow: Flow,
     plan: [u8; Plan::MOST * Plan::STEP_BYTES],
-) -> Answer
-    requires { KeptInMemory (tabled nodes flows.old rows.old records.old steps.old figures.old) }
-    ensures { Returns (add_of (record {
-      table = tabled nodes flows.old rows.old records.old steps.old figures.old;
-      place = place;
-      flow = flow;
-      plan = plan;
-    })) result (tabled nodes flows.new rows.new records.new steps.new figures.new) }
+) -> Result<(), Refusal>
+    ensures { Returns (add_of (record { table = kept_in table.old; place = place; flow = flow; plan = plan })) (tested result)
+        (kept_in table.new) }
 {
-    let count = *flows as usize;
-    let placed = enter_answer(count, place);
-    let asked = old_answer(nodes as usize, count, rows, records, steps, figures, placed);
-    if asked.code != 0 {
-        return asked;
-    }
+    let count = table.flows as usize;
+    old_answer(
+        table.nodes as usize,
+        count,
+        &table.rows,
+        &table.records,
+        &table.steps,
+        &table.figures,
+    )?;
+    enter_answer(count, place)?;
     let size = Plan::STEP_BYTES * places_taken(flow);
     let mut record = record_bytes(flow);
     let mut taken = plan;
-    flow_in(
-        nodes as usize,
-        flows,
-        rows,
-        records,
-        steps,
-        figures,
-        place,
-        &mut record,
-        &mut taken[..size],
-    )
+    flow_in(table, place, &mut record, &mut taken[..size])
 }

@@ -13,9 +13,9 @@ use Rattle.trade.specs.Bound.{fairly, measure, code9, code9_by}
 use Rattle.trade.specs.Kept.{Tabled, RightFigures, code17}
 use Rattle.trade.specs.Answers.{is_done, given_first, first_of, on, no_number}
 use Rattle.trade.specs.Codes.{code6, code8, code14, code15_adding, code15_removing}
-use Rattle.trade.specs.Calls.{Adding, Removing, table_rules, old_rules, with_flow, enter_rules, new_rules, new_rules_by, add_answer, add_answer_by, leave_rules, remove_answer}
+use Rattle.trade.specs.Calls.{Adding, Removing, table_rules, old_rules, with_flow, enter_rules, new_rules, new_rules_by, add_answer, add_answer_by, leave_rules}
 use Rattle.trade.specs.declared.answer.Answer.{Answer}
-use Rattle.trade.proofs.Answers.{done_first, refused_second, Passed, passed_head, passed_tail, passed_first, passed_others, passed_look, first_of_passed, given_passed, given_passes, first_of_pass, first_of_last, append_refused, append_passed, first_of_look, first_of_on}
+use Rattle.trade.proofs.Answers.{done_first, refused_second, Passed, passed_head, passed_tail, passed_first, passed_others, passed_look, first_of_passed, given_passed, given_passes, first_of_pass, first_of_last, append_refused, append_passed, first_of_look}
 use Rattle.trade.proofs.Alike.{SameTimes}
 use Rattle.trade.proofs.Fair.{fair_same}
 use Rattle.trade.proofs.Kept.{interference_counted, passed_right}
@@ -24,7 +24,6 @@ use Rattle.bounds.specs.declared.bounds.Checked.{Checked}
 use Rattle.bounds.proofs.BoundsLaws.{bounded_times}
 use Rattle.square.specs.Carried.{OldFigures, pairs_of, figure_with}
 use Rattle.square.proofs.CarriedLaws.{with_right}
-use Rattle.rules.specs.Rules.{old_then}
 
 -- the table after a change, by its answer: as it was, or the new one
 pub leaves : (answer r : Answer) (new old : Tabled) → r ≡ answer → (r.code ≡ 0 → ⊥) → old ≡ cond (is_done answer) new old
@@ -58,9 +57,16 @@ module _ (t : Tabled) where
 
 -- and then the place: the first rules of either change
 module _ {A : Type 0} (table : A → Tabled) (place : List (A → Answer)) (x : A) where
-  pub old_then_lem : old_then (table x) (first_of place no_number x) ≡ first_of (on table old_rules ++ place) no_number x
-  unfolding old_then
-  old_then_lem = sym (first_of_on table old_rules place no_number x)
+  look_old : first_of (on table old_rules) no_number x ≡ first_of old_rules no_number (table x)
+  look_old = first_of_look table old_rules x
+
+  pub old_decides :
+      ((first_of old_rules no_number (table x)).code ≡ 0 → ⊥)
+      → first_of (on table old_rules ++ place) no_number x ≡ first_of old_rules no_number (table x)
+  old_decides n = append_refused _ _ no_number x (λ z. n (sym (ap (λ (a : Answer). a.code) look_old) ∙ z)) ∙ look_old
+
+  pub place_decides : (first_of old_rules no_number (table x)).code ≡ 0 → first_of (on table old_rules ++ place) no_number x ≡ first_of place no_number x
+  place_decides e = append_passed _ _ no_number x (ap (λ (a : Answer). a.code) look_old ∙ e)
 
   -- where they pass, those of the table passed, and those of the place
   pub old_passed : (first_of (on table old_rules ++ place) no_number x).code ≡ 0 → Passed (table x) old_rules
@@ -75,17 +81,11 @@ ask_answer a = first_of (on (λ b. b.table) old_rules ++ enter_rules) no_number 
 
 module _ (a : Adding) where
   -- the rules on the place read the count of flows alone
-  enter_count :
+  pub enter_count :
       first_of enter_rules no_number a
       ≡ first_of (code14 ∷ (λ f. code15_adding f a.place) ∷ []) no_number (facts_in 0 a.table.sections.flows [] [] [])
   unfolding enter_rules first_of code14 code15_adding facts_of
   enter_count = refl
-
-  pub enter_asked :
-      {place : Answer}
-      → place ≡ first_of (code14 ∷ (λ f. code15_adding f a.place) ∷ []) no_number (facts_in 0 a.table.sections.flows [] [] [])
-      → old_then a.table place ≡ ask_answer a
-  enter_asked e = ap (old_then a.table) (e ∙ sym enter_count) ∙ old_then_lem (λ b. b.table) enter_rules a
 
   -- and where they pass there is room there
   pub enter_room : Passed a enter_rules → (a.table.sections.flows ≡ most_flows → ⊥) × (a.place ≤ a.table.sections.flows)
@@ -107,13 +107,9 @@ module _ (a : Adding) where
 -- REMOVING
 module _ (r : Removing) where
   -- the rule on the place reads the count of flows alone
-  leave_count : first_of leave_rules no_number r ≡ code15_removing (facts_in 0 r.table.sections.flows [] [] []) r.place
+  pub leave_count : first_of leave_rules no_number r ≡ code15_removing (facts_in 0 r.table.sections.flows [] [] []) r.place
   unfolding leave_rules code15_removing facts_of
   leave_count = first_of_last {A = Removing} _ r (given_passes 14 _ 0)
-
-  pub leave_asked : {place : Answer} → place ≡ code15_removing (facts_in 0 r.table.sections.flows [] [] []) r.place → old_then r.table place ≡ remove_answer r
-  unfolding remove_answer
-  leave_asked e = ap (old_then r.table) (e ∙ sym leave_count) ∙ old_then_lem (λ q. q.table) leave_rules r
 
   -- and where it passes there is a flow there
   pub leave_there : Passed r leave_rules → r.place < r.table.sections.flows

@@ -1,4 +1,4 @@
--- The rules of a change: of the old table, and then those behind them; of the new table, with its figures. Leans on the trade's calls and on the
+-- The rules of a change on the new table, with its figures. Leans on the trade's calls and on the
 -- square's Carried.
 use Rattle.std.specs.Prelude.{ℕ, ◌*◌, ◌≤◌, ◌<◌, ◌≡◌, cond, List, length}
 use Rattle.trade.specs.Limits.{most_nodes, most_flows, row_bytes, record_bytes, step_bytes}
@@ -6,14 +6,10 @@ use Rattle.trade.specs.Layout.{Sections}
 use Rattle.trade.specs.Facts.{facts_of, all_steps}
 use Rattle.trade.specs.Answers.{is_done, first_of, no_number}
 use Rattle.trade.specs.Codes.{code6}
-use Rattle.trade.specs.Kept.{Tabled, figures_room, figures_of}
-use Rattle.trade.specs.Calls.{old_rules, new_rules}
+use Rattle.trade.specs.Kept.{figures_room, figures_of}
+use Rattle.trade.specs.Calls.{new_rules}
 use Rattle.trade.specs.declared.answer.Answer.{Answer}
 use Rattle.square.specs.Carried.{OldFigures}
-
--- what the rules on the old table answer, or where they pass what those behind them do
-unfoldable pub old_then : Tabled → Answer → Answer
-old_then t behind = cond (is_done (first_of old_rules no_number t)) behind (first_of old_rules no_number t)
 
 -- the sections of a new table: its rows and records are there, and its steps where code 6 passes
 pub record New (t : Sections) : Type 0 where

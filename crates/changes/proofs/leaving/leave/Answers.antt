@@ -1,48 +1,73 @@
 -- `changes::leaving::leave` meets its contract: the old table or the place refuses, or the flow goes. Assumes nothing.
-use mathlib.Core.Path.{◌≡◌, sym, ◌∙◌, ap}
-use native.Mathlib.Omega.{arith}
-use Rattle.trade.specs.Kept.{tabled}
-use Rattle.trade.specs.Calls.{Removing, without_flow, remove_answer, remove_of}
+use Prim.Native.Nat.{ℕ}
+use mathlib.Core.Path.{◌≡◌, refl, sym, ◌∙◌, ap}
+use borrow.Author.Rules.{rules}
+use Rattle.std.specs.Prelude.{Result, IsErrAnd}
+use Rattle.trade.specs.Kept.{KeptInMemory}
+use Rattle.trade.specs.Answers.{done}
+use Rattle.trade.specs.Calls.{Removing, leave_rules, without_flow, remove_answer, remove_of}
+use Rattle.trade.specs.Refusals.{answer_of, tested}
 use Rattle.trade.specs.declared.answer.Answer.{Answer}
-use Rattle.changes.specs.Moved.{Leaving}
-use Rattle.rules.proofs.RulesLaws.{leaves, gives, leave_asked}
+use Rattle.trade.specs.declared.refusal.Refusal.{Refusal}
+use Rattle.trade.proofs.Refusals.{refuses, handed_on}
+use Rattle.table.specs.Table.{kept_in}
+use Rattle.changes.specs.Change.{Returns}
+use Rattle.rules.proofs.RulesLaws.{leaves, gives, old_decides, place_decides, leave_count}
 use Rattle.changes.proofs.LeavingLaws.{leave_goes}
 use Rattle.changes.proofs.leaving.leave.Goals as goal
-use Rattle.changes.proofs.leaving.leave.Goals.{After-old_answer-asked, Else-asked-ne0, Start}
+use Rattle.changes.proofs.leaving.leave.Goals.{In_ok-leave_answer, Start}
 
 -- what the call was handed
 abbrev asked : Start → Removing
-asked s =
-    record {
-      table = tabled s.args.nodes s.args.flows.now s.args.rows.now s.args.records.now s.args.steps.now s.args.figures.now;
-      place = s.args.place;
-    }
+asked s = record { table = kept_in s.args.table.now; place = s.args.place }
 
-answers : (c : After-old_answer-asked) → c.old_answer-asked.result ≡ remove_answer (asked c.before.before.before.before.before.before.before)
-answers c = c.old_answer-asked.ensures ∙ leave_asked (asked c.before.before.before.before.before.before.before) c.leave_answer-placed.ensures
+abbrev coded : Answer → ℕ
+coded a = a.code
 
-pub old_answer-asked-requires : goal.old_answer-asked-requires
-old_answer-asked-requires c = c.requires
+memory : (s : Start) → KeptInMemory (asked s).table
+memory s = record { sections = record { rows = search rules; records = search rules; steps = search rules }; figures = search rules }
 
-pub returns-then-asked-ne0 : goal.returns-then-asked-ne0
+-- what refuses
+refused :
+    (r : Removing) (tried : Result Unit Refusal) (e : Refusal)
+    → IsErrAnd tried (λ x. x ≡ e)
+    → answer_of e ≡ remove_answer r
+    → Returns (remove_of r) (tested tried) r.table
 unfolding remove_of
-returns-then-asked-ne0 c =
-    let e = answers (goal.at.returns-then-asked-ne0 c).After-old_answer-asked in
-    record { answer = e; table = leaves _ _ _ _ e c.if-asked-ne0.true }
+refused r tried e h k =
+    let same = handed_on tried e h in
+    let answered = same ∙ k in
+    record { answer = answered; table = leaves _ _ _ _ answered (λ z. refuses e (sym (ap coded same) ∙ z)) }
 
--- so the flow may go
-goes : (c : Else-asked-ne0) → Leaving (asked c.before.before.before.before.before.before.before.before.before).table (asked c.before.before.before.before.before.before.before.before.before).place
-goes c =
-    leave_goes (asked c.before.before.before.before.before.before.before.before.before) c.requires (sym (ap (λ (r : Answer). r.code) (answers c.before.before)) ∙ c.if-asked-ne0.false)
+pub returns-in_err-old_answer : goal.returns-in_err-old_answer
+unfolding remove_answer
+returns-in_err-old_answer c =
+    let r = asked (goal.at.returns-in_err-old_answer c).Start in
+    let e = c.in_err-old_answer.field-0.0 in
+    let old = c.in_err-old_answer.ensures in
+    refused r c.from_residual.result e c.from_residual.ensures.1
+    (old ∙ sym (old_decides (λ q. q.table) leave_rules r (λ z. refuses e (ap coded old ∙ z))))
+
+pub returns-in_err-leave_answer : goal.returns-in_err-leave_answer
+unfolding remove_answer
+returns-in_err-leave_answer c =
+    let r = asked (goal.at.returns-in_err-leave_answer c).Start in
+    let e = c.in_err-leave_answer.field-0.0 in
+    refused r c.from_residual-in_err-leave_answer.result e c.from_residual-in_err-leave_answer.ensures.1
+    (c.in_err-leave_answer.ensures ∙ sym (place_decides (λ q. q.table) leave_rules r (sym (ap coded c.in_ok-old_answer.ensures)) ∙ leave_count r))
 
 pub flow_out-requires : goal.flow_out-requires
-flow_out-requires c = goes (goal.at.flow_out-requires c).Else-asked-ne0
-
-pub overflow_sub-flows : goal.overflow_sub-flows
-overflow_sub-flows c = omega (arith, (goes (goal.at.overflow_sub-flows c).Else-asked-ne0).within)
+unfolding remove_answer
+flow_out-requires c =
+    let s = (goal.at.flow_out-requires c).Start in
+    let r = asked s in
+    leave_goes r (memory s)
+    (ap coded (place_decides (λ q. q.table) leave_rules r (sym (ap coded c.in_ok-old_answer.ensures)) ∙ leave_count r) ∙ sym (ap coded c.in_ok-leave_answer.ensures))
 
 pub returns : goal.returns
-unfolding remove_of without_flow
+unfolding remove_of without_flow remove_answer
 returns c =
-    let e = answers (goal.at.returns c).After-old_answer-asked in
-    record { answer = e; table = c.flow_out.ensures ∙ gives _ _ _ _ e c.if-asked-ne0.false }
+    let r = asked (goal.at.returns c).Start in
+    let e : done 0 ≡ remove_answer r =
+    c.in_ok-leave_answer.ensures ∙ sym (place_decides (λ q. q.table) leave_rules r (sym (ap coded c.in_ok-old_answer.ensures)) ∙ leave_count r) in
+    record { answer = e; table = c.flow_out.ensures ∙ gives _ _ _ _ e refl }

@@ -1,7 +1,7 @@
 -- Marks spread over the nodes of sets, and collected from them: the columns of a plan. Leans on Bits and Counts. Assumes nothing.
 use Prim.Native.Nat.{ℕ, suc, ◌+◌, ◌-◌, ◌/◌, ◌%◌, ◌^◌, ◌≤◌, ◌<◌}
 use mathlib.Core.Path.{◌≡◌, refl, sym, ◌∙◌, ap, ap₂}
-use mathlib.Core.Bool.{Bool, true, false, not, cond, ◌&&◌, ◌||◌, or_comm, or-false, or_assoc, and-false, and-true}
+use mathlib.Core.Bool.{Bool, true, false, not, cond, ◌&&◌, ◌||◌, or_comm, or-false, and-false, and-true}
 use mathlib.Core.Logic.{◌⊎◌, inl, inr, ⊎_elim}
 use mathlib.Core.List.{List}
 use native.Mathlib.Omega.{arith}
@@ -179,12 +179,10 @@ module _ (u : Transmission) where
       → ((x : ℕ) → test j x ≡ ending u x)
       → ((x : ℕ) → bit nodes x ≡ some (λ i. test i x) j)
       → (x : ℕ)
-      → bit (bit_or (bit_or nodes (only u.sender.0)) (only u.receiver.0)) x ≡ some (λ i. test i x) (suc j)
-  unfolding ending
+      → bit (bit_or nodes (bit_or (only u.sender.0) (only u.receiver.0))) x ≡ some (λ i. test i x) (suc j)
   ends_more nodes j test is s x =
-      bit_or_lem (bit_or nodes (only u.sender.0)) (only u.receiver.0) x
-      ∙ rw (bit_or_lem nodes (only u.sender.0) x, bit_only u.sender.0 x, bit_only u.receiver.0 x, s x)
-      (or_assoc (some (λ i. test i x) j) (eqb u.sender.0 x) (eqb u.receiver.0 x) ∙ rw (← is x) (sym (some_next (λ i. test i x) j)))
+      bit_or_lem nodes (bit_or (only u.sender.0) (only u.receiver.0)) x
+      ∙ rw (both_ends x, s x, ← is x) (sym (some_next (λ i. test i x) j))
 
   -- two marks, those of both sets spread first and at once
   pub noted :

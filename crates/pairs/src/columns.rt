@@ -21,8 +21,8 @@ fn spread(table: &mut [u64], nodes: u64, mark: u64)
     let mut rest = nodes;
     while rest != 0 {
         let x = u64::trailing_zeros(rest) as usize;
-        table[x] = table[x] | mark;
-        rest = rest & (rest - 1);
+        table[x] |= mark;
+        rest &= rest - 1;
     }
 }
 
@@ -32,11 +32,9 @@ pub fn nodes_in(steps: &[u8], count: usize) -> u64
     ensures { (x : ℕ) → bit result x ≡ some (λ j. ending (step_in steps.now j) x) count }
 {
     let mut nodes: u64 = 0;
-    let mut j = 0;
-    while j < count {
+    for j in 0..count {
         let u = step_at(steps, j);
-        nodes = nodes | only(u.sender) | only(u.receiver);
-        j += 1;
+        nodes |= only(u.sender) | only(u.receiver);
     }
     nodes
 }
@@ -50,7 +48,7 @@ pub fn hear(rows: &[u8], nodes: u64, table: &mut [u64])
     while rest != 0 {
         let x = u64::trailing_zeros(rest) as usize;
         spread(table, row_at(rows, x), 1 << x);
-        rest = rest & (rest - 1);
+        rest &= rest - 1;
     }
 }
 
@@ -77,10 +75,8 @@ pub fn gather(rows: &[u8], heard: &[u64], plan: &[u8], columns: &mut [u64])
     ensures { Gathered rows.now heard.now plan.now columns.old columns.new }
 {
     let len = step_count(plan);
-    let mut b = 0;
-    while b < len {
+    for b in 0..len {
         note(rows, heard, step_at(plan, len - 1 - b), b, columns);
-        b += 1;
     }
 }
 

@@ -32,9 +32,6 @@ inside c = omega (arith, (lowest c).0, c.loop-rest.invariant.0.size, c.requires)
 pub bounds-table-x : goal.bounds-table-x
 bounds-table-x c = inside (goal.at.bounds-table-x c).In-loop-rest
 
-pub offset_bounds-table-x-in-loop-rest : goal.offset_bounds-table-x-in-loop-rest
-offset_bounds-table-x-in-loop-rest c = omega (arith, trailing_le 64 c.loop-rest.rest)
-
 pub bounds-table-x-in-loop-rest : goal.bounds-table-x-in-loop-rest
 bounds-table-x-in-loop-rest c = inside (goal.at.bounds-table-x-in-loop-rest c).In-loop-rest
 

@@ -64,9 +64,5 @@ pub fn clear(section: &mut [u8], end: usize)
     requires { end ≤ length section.old }
     ensures { section.new ≡ padded (length section.old) (take end section.old) }
 {
-    let mut i = end;
-    while i < section.len() {
-        section[i] = 0;
-        i += 1;
-    }
+    section[end..].fill(0);
 }

@@ -1,5 +1,5 @@
 -- Bytes of a section moved in place: parts that change about, bytes that come in among those in use and go again, and zeros behind
--- them. Leans on the numbers' PastingLaws and the trade's Exchange. Assumes nothing.
+-- them. Leans on the trade's Exchange. Assumes nothing.
 use Prim.Native.Nat.{ℕ, ◌+◌, ◌-◌, ◌≤◌}
 use mathlib.Core.Path.{◌≡◌, refl, sym, ◌∙◌, ap, ap₂}
 use mathlib.Core.List.{List, [], ◌++◌, append_assoc, append-nil, reverse, reverse-append, reverse-reverse}
@@ -10,10 +10,8 @@ use borrow.Rule.Slice.PartMut.{mid_of, put_mid, Post-is, mid_len}
 use Rattle.std.proofs.lemmas.List.{drop-take}
 use Rattle.trade.specs.Bytes.{part, padded, over}
 use Rattle.trade.specs.Exchange.{spliced}
-use Rattle.trade.proofs.Bytes.{take_over}
 use Rattle.trade.proofs.Exchange.{length_spliced}
 use Rattle.numbers.specs.Pasting.{pasted_at}
-use Rattle.numbers.proofs.PastingLaws.{pasted_first}
 use lib.Seq.{slice}
 use Rattle.cut.specs.Turned.{turned}
 
@@ -161,15 +159,7 @@ zeroed end l filled h e =
       length-take-le end l h,
     )
 
--- HELD BYTES that change about with as many of a section, through a third place
-pub kept_front : (held zeros kept : List ℕ) → kept ≡ pasted_at 0 held zeros → take (length held) kept ≡ held
-kept_front held zeros kept e = ap (take (length held)) (e ∙ pasted_first held zeros) ∙ take_over held zeros
-
-pub over_all : (new old : List ℕ) → length new ≡ length old → pasted_at 0 new old ≡ new
-unfolding over
-over_all new old e = pasted_first new old ∙ rw (drop_of_length-le old {i = length new} (omega arith), append-nil new)
-
--- THEY COME IN at a place of the bytes in use: what was put behind these changes about with those from the place on
+-- HELD BYTES COME IN at a place of the bytes in use: what was put behind these changes about with those from the place on
 module _ (at end : ℕ) (held l : List ℕ) (within : at ≤ end) (room : end + length held ≤ length l) where
   pub length_entered : length (spliced at at held (take end l)) ≡ end + length held
   length_entered =

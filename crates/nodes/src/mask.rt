@@ -3,7 +3,8 @@ ghost use Rattle.std.specs.Prelude.{◌≡◌, ◌+◌, ◌*◌, ◌≤◌, ◌<
 ghost use Rattle.trade.specs.Limits.{most_nodes, row_bytes};
 ghost use Rattle.trade.specs.Bytes.{bit};
 ghost use Rattle.nodes.specs.Network.{InNetwork};
-ghost use Rattle.nodes.specs.Mask.{only, row_mask};
+ghost use Rattle.std.specs.Iterator.{at_most};
+ghost use Rattle.nodes.specs.Mask.{only, row_mask, TakesLowest};
 
 use trade::Node;
 
@@ -38,4 +39,25 @@ pub fn row_mask(rows: &[u8], x: Node) -> u64
     ensures { result ≡ row_mask rows.now x.0 }
 {
     row_at(rows, x.0 as usize)
+}
+
+// The nodes of a set, the lowest first.
+#[derive(Drop)]
+pub struct Members(pub u64);
+
+impl Iterator for Members {
+    type Item = Node;
+
+    ghost next_gives = { TakesLowest };
+
+    ghost remaining = { λ s. at_most s.0 };
+
+    fn next(&mut self) -> Option<Node> {
+        if self.0 == 0 {
+            return None;
+        }
+        let x = self.0.trailing_zeros() as u8;
+        self.0 &= self.0 - 1;
+        Some(Node(x))
+    }
 }

@@ -1,19 +1,17 @@
 -- Bytes of a section moved in place: parts that change about, bytes that come in among those in use and go again, and zeros behind
--- them. Leans on the numbers' PastingLaws and the trade's Exchange. Assumes nothing.
-use Prim.Native.Nat.{ℕ, suc, ◌+◌, ◌-◌, ◌≤◌, ◌<◌}
+-- them. Leans on the trade's Exchange. Assumes nothing.
+use Prim.Native.Nat.{ℕ, ◌+◌, ◌-◌, ◌≤◌}
 use mathlib.Core.Path.{◌≡◌, refl, sym, ◌∙◌, ap, ap₂}
 use mathlib.Core.List.{List, [], ◌++◌, append_assoc, append-nil, reverse, reverse-append, reverse-reverse}
 use native.Mathlib.Omega.{arith}
-use lib.ListN.{length, take, drop, set, replicate, length-append, length-drop, length-replicate, get_or-replicate, take-append-drop, drop_of_length-le, length-reverse}
-use lib.Seq.{length-take-le, take_all, take-take, take-add, take_at, drop_at, length-slice, paste, paste-zero, paste-suc, length-paste}
-use borrow.Rule.Slice.PartMut.{mid_of, put_mid, Post-is}
+use lib.ListN.{length, take, drop, replicate, length-append, length-drop, take-append-drop, drop_of_length-le, length-reverse}
+use lib.Seq.{length-take-le, take-take, take-add, take_at, drop_at, length-slice}
+use borrow.Rule.Slice.PartMut.{mid_of, put_mid, Post-is, mid_len}
 use Rattle.std.proofs.lemmas.List.{drop-take}
 use Rattle.trade.specs.Bytes.{part, padded, over}
 use Rattle.trade.specs.Exchange.{spliced}
-use Rattle.trade.proofs.Bytes.{take_over}
 use Rattle.trade.proofs.Exchange.{length_spliced}
 use Rattle.numbers.specs.Pasting.{pasted_at}
-use Rattle.numbers.proofs.PastingLaws.{pasted_first}
 use lib.Seq.{slice}
 use Rattle.cut.specs.Turned.{turned}
 
@@ -144,54 +142,24 @@ left_front from to end l h g k =
     ∙ take_at (a ++ t) (slice from to l ++ drop end l) (end - (to - from)) size
     ∙ sym (without from to end l (omega arith))
 
--- ZEROS stored one by one behind the bytes in use
-abbrev zeros : ℕ → List ℕ
-zeros n = replicate n 0
+-- ZEROS in the part from a place on
+pub zeroed :
+    (end : ℕ) (l filled : List ℕ)
+    → end ≤ length l
+    → filled ≡ replicate (length (mid_of end (length l - end) l)) 0
+    → put_mid end (length l - end) l filled ≡ padded (length l) (take end l)
+unfolding padded
+zeroed end l filled h e =
+    rw (
+      e,
+      mid_len end (length l) l (omega arith),
+      Post-is end (length l) l h,
+      drop_of_length-le l {i = length l} (omega arith),
+      append-nil {A = ℕ} (replicate (length l - end) 0),
+      length-take-le end l h,
+    )
 
-abbrev pub zeroed : ℕ → ℕ → List ℕ → List ℕ
-zeroed end i l = paste l end (zeros (length l - end)) (i - end)
-
-module _ (end : ℕ) (l : List ℕ) (h : end ≤ length l) where
-  size : length (zeros (length l - end)) ≡ length l - end
-  size = length-replicate {A = ℕ} (length l - end) 0
-
-  pub zeroed_none : l ≡ zeroed end end l
-  zeroed_none =
-      let none : 0 ≡ end - end = omega arith in
-      paste-zero l end (zeros (length l - end)) ∙ ap (paste l end (zeros (length l - end))) none
-
-  pub zeroed_length : (i : ℕ) (k : List ℕ) → end ≤ i → i ≤ length l → k ≡ zeroed end i l → length k ≡ length l
-  zeroed_length i k g j e = ap length e ∙ length-paste l end (zeros (length l - end)) (i - end) (omega arith) (omega (arith, size))
-
-  pub zeroed_next : (i : ℕ) (k : List ℕ) → end ≤ i → i < length l → k ≡ zeroed end i l → set k i 0 ≡ zeroed end (i + 1) l
-  zeroed_next i k g j e =
-      let at : end + (i - end) ≡ i = omega arith in
-      let next : suc (i - end) ≡ i + 1 - end = omega arith in
-      ap (λ (m : List ℕ). set m i 0) e
-      ∙ sym (ap₂ (set (zeroed end i l)) at (get_or-replicate (length l - end) (i - end) 0 0 (omega arith)))
-      ∙ paste-suc l end (zeros (length l - end)) (i - end) 0 (omega arith) (omega (arith, size))
-      ∙ ap (paste l end (zeros (length l - end))) next
-
-  pub zeroed_all : (k : List ℕ) → k ≡ zeroed end (length l) l → k ≡ padded (length l) (take end l)
-  unfolding padded
-  zeroed_all k e =
-      e
-      ∙ rw (
-        take_all (length l - end) (zeros (length l - end)) (omega (arith, size)),
-        drop_of_length-le l {i = end + (length l - end)} (omega arith),
-        append-nil (take end l ++ zeros (length l - end)),
-        length-take-le end l h,
-      )
-
--- HELD BYTES that change about with as many of a section, through a third place
-pub kept_front : (held zeros kept : List ℕ) → kept ≡ pasted_at 0 held zeros → take (length held) kept ≡ held
-kept_front held zeros kept e = ap (take (length held)) (e ∙ pasted_first held zeros) ∙ take_over held zeros
-
-pub over_all : (new old : List ℕ) → length new ≡ length old → pasted_at 0 new old ≡ new
-unfolding over
-over_all new old e = pasted_first new old ∙ rw (drop_of_length-le old {i = length new} (omega arith), append-nil new)
-
--- THEY COME IN at a place of the bytes in use: what was put behind these changes about with those from the place on
+-- HELD BYTES COME IN at a place of the bytes in use: what was put behind these changes about with those from the place on
 module _ (at end : ℕ) (held l : List ℕ) (within : at ≤ end) (room : end + length held ≤ length l) where
   pub length_entered : length (spliced at at held (take end l)) ≡ end + length held
   length_entered =
@@ -199,7 +167,7 @@ module _ (at end : ℕ) (held l : List ℕ) (within : at ≤ end) (room : end + 
       length_spliced at at held (take end l) (omega arith) ∙ omega arith
 
   pub entered_in_turn : turned at end (end + length held) (pasted_at end held l) ≡ over (spliced at at held (take end l)) l
-  unfolding pasted_at over spliced slice
+  unfolding pasted_at over spliced
   entered_in_turn =
       let a = take at l in
       let t = slice at end l in
@@ -278,7 +246,7 @@ out_again at end held l within room s kept e f =
 -- and the bytes that went stand behind those in use
 pub went_behind :
     (at end size : ℕ) (l : List ℕ) → at ≤ end → end + size ≤ length l → part end size (turned at (at + size) (end + size) l) ≡ part at size l
-unfolding part turned slice
+unfolding part turned
 went_behind at end size l h k =
     let a = take at l in
     let q = slice (at + size) (end + size) l in

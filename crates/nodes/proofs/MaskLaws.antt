@@ -3,15 +3,19 @@ use Prim.Native.Nat.{ℕ, zero, suc, ◌+◌, ◌-◌, ◌*◌, ◌/◌, ◌%◌
 use mathlib.Core.Path.{◌≡◌, refl, sym, ◌∙◌, ap, ap₂}
 use mathlib.Core.Bool.{Bool, true, false, not, cond, ◌&&◌, ◌||◌}
 use mathlib.Core.Logic.{◌⊎◌, inl, inr, ⊎_elim}
-use mathlib.Core.List.{List}
+use mathlib.Core.List.{List, []}
 use native.Mathlib.Omega.{arith}
-use native.Mathlib.Nat.{div-one, zero-div, pow-suc, mod-lt, mul-mod_left, mul-div_cancel, add-zero, zero-add, suc-add, mul_assoc, zero-mul, one-mul, mod-eq_of_lt}
+use native.Mathlib.Nat.{div-one, zero-div, pow-suc, mod-lt, mul-mod_left, mul-div_cancel, add-zero, zero-add, zero-mul, one-mul, mod-eq_of_lt}
 use native.Mathlib.Numerals.{one-add}
+use lib.ListN.{get_or, drop}
+use lib.Seq.{get_or-take, get_or-drop}
 use lib.Dec.{eqb, eqb-zero-suc, eqb-suc-zero, eqb-suc-suc}
 use lib.Bits.{bit_or, bit_and, bit_xor, or_shr, or_mod, and_shr, and_mod, xor_shr, xor_mod, and_block, and_mask, and_zero_r, or_add_and, and_le_r, block_half, block_odd}
 use lib.Pow.{pow_pos, pow-lt, shr-shr, split, high}
-use lib.Arith.{bin_ind, digits_lt}
+use lib.Arith.{bin_ind}
 use borrow.Author.Tests.{ne_eqb}
+use Rattle.std.specs.Int.{w64, from_le_bytes}
+use Rattle.std.specs.Simd.{first_chunks}
 use Rattle.trade.specs.Limits.{row_bytes, most_nodes}
 use Rattle.trade.specs.Bytes.{byte, bit}
 use Rattle.trade.specs.Facts.{disturbs_in}
@@ -152,33 +156,36 @@ bit_low_first bytes small (suc k) at y h = ⊎_elim low (next (λ z l. bit_low_f
         ∙ rest z (omega arith)
         ∙ ap₂ (λ (i b : ℕ). bit (byte bytes i) b) there same
 
-low_first_lt : (bytes : List ℕ) → ((i : ℕ) → byte bytes i < 2 ^ 8) → (k at : ℕ) → low_first bytes at k < (2 ^ 8) ^ k
+-- a run of bytes goes by the bytes in it
+low_first_same :
+    (a b : List ℕ) (k p q : ℕ) → ((i : ℕ) → i < k → byte a (p + i) ≡ byte b (q + i)) → low_first a p k ≡ low_first b q k
 unfolding low_first
-low_first_lt bytes small zero at = omega arith
-low_first_lt bytes small (suc k) at = rw (pow-suc (2 ^ 8) k) (digits_lt (low_first_lt bytes small k (suc at)) (small at))
+low_first_same a b zero p q same = refl
+low_first_same a b (suc k) p q same =
+    ap₂ (λ (m n : ℕ). m * 2 ^ 8 + n) (low_first_same a b k (suc p) (suc q) (λ i h. next i h)) (rw (add-zero p, add-zero q) at (same 0 (omega arith)))
+  where
+    next : (i : ℕ) → i < k → byte a (suc p + i) ≡ byte b (suc q + i)
+    next i h =
+        let e : suc p + i ≡ p + suc i = omega arith in
+        let f : suc q + i ≡ q + suc i = omega arith in
+        rw (e, f) (same (suc i) (omega arith))
 
--- a run of bytes in two parts
-low_first_split :
-    (bytes : List ℕ) (j k at : ℕ)
-    → low_first bytes at (j + k) ≡ low_first bytes (at + j) k * (2 ^ 8) ^ j + low_first bytes at j
+-- byte i of part x of so many bytes each
+byte_chunk :
+    (n k x i : ℕ) (bytes : List ℕ) → x < k → i < n → byte (get_or (first_chunks n k bytes) x []) i ≡ byte bytes (n * x + i)
+byte_chunk n zero x i bytes h g = absurd (omega arith)
+byte_chunk n (suc k) zero i bytes h g = get_or-take n bytes i 0 g ∙ ap (byte bytes) (omega arith)
+byte_chunk n (suc k) (suc x) i bytes h g =
+    byte_chunk n k x i (drop n bytes) (omega arith) g ∙ get_or-drop n bytes (n * x + i) 0 ∙ ap (byte bytes) (omega arith)
+
+-- part x of eight bytes each, as a number
+pub eight_bytes :
+    (k x : ℕ) (bytes : List ℕ) → x < k → from_le_bytes w64 (get_or (first_chunks 8 k bytes) x []) ≡ low_first bytes (8 * x) 8
 unfolding low_first
-low_first_split bytes zero k at = rw (zero-add k, add-zero at) (omega arith)
-low_first_split bytes (suc j) k at =
-    let e : suc at + j ≡ at + suc j = omega arith in
-    rw (suc-add j k, pow-suc (2 ^ 8) j, low_first_split bytes j k (suc at), e, ← mul_assoc (low_first bytes (at + suc j) k) ((2 ^ 8) ^ j) (2 ^ 8)) (omega arith)
-
--- a run of one byte
-pub one_byte : (bytes : List ℕ) (at : ℕ) → byte bytes at ≡ low_first bytes at 1
-unfolding low_first
-one_byte bytes at = omega arith
-
--- TWO HALVES of k bytes each: either fits in so many, and put together they are the whole
-module _ (bytes : List ℕ) (k at : ℕ) {high low : ℕ} (h : high ≡ low_first bytes (at + k) k) (l : low ≡ low_first bytes at k) where
-  pub halves_fit : ((i : ℕ) → byte bytes i < 2 ^ 8) → (high < (2 ^ 8) ^ k) × (low < (2 ^ 8) ^ k)
-  halves_fit small = rw (h, l) (low_first_lt bytes small k (at + k), low_first_lt bytes small k at)
-
-  pub halves_joined : high * (2 ^ 8) ^ k + low ≡ low_first bytes at (k + k)
-  halves_joined = rw (h, l) (sym (low_first_split bytes k k at))
+eight_bytes k x bytes h =
+    let part : List ℕ = get_or (first_chunks 8 k bytes) x [] in
+    let read : from_le_bytes w64 part ≡ low_first part 0 8 = omega arith in
+    read ∙ low_first_same part bytes 8 0 (8 * x) (λ i l. rw (zero-add i) (byte_chunk 8 k x i bytes h l))
 
 -- a row has the nodes that are disturbed
 pub bit_row : (rows : List ℕ) → ((i : ℕ) → byte rows i < 2 ^ 8) → (x y : ℕ) → y < most_nodes → bit (row_mask rows x) y ≡ disturbs_in rows x y

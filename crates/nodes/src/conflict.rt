@@ -20,7 +20,7 @@ pub fn disturbs(rows: &[u8], x: Node, y: Node) -> bool
 fn meet(a: Node, b: Node, c: Node, d: Node) -> bool
     ensures { result ≡ meet a.0 b.0 c.0 d.0 }
 {
-    (a.0 == b.0) | (c.0 == d.0) | (a.0 == c.0) | (a.0 == d.0) | (b.0 == c.0) | (b.0 == d.0)
+    (a == b) | (c == d) | (a == c) | (a == d) | (b == c) | (b == d)
 }
 
 // A to B and C to D conflict if the four nodes are not all distinct, or C disturbs B, or A disturbs D; or D disturbs A, or B disturbs C.

@@ -1,9 +1,10 @@
 // Sets of nodes as numbers of 64 bits: node x is in the set if bit x is set.
-ghost use Rattle.std.specs.Prelude.{◌≡◌, ◌+◌, ◌*◌, ◌^◌, ◌≤◌, ◌<◌, length};
+ghost use Rattle.std.specs.Prelude.{◌≡◌, ◌+◌, ◌*◌, ◌≤◌, ◌<◌, length};
 ghost use Rattle.trade.specs.Limits.{most_nodes, row_bytes};
 ghost use Rattle.trade.specs.Bytes.{bit};
 ghost use Rattle.nodes.specs.Network.{InNetwork};
-ghost use Rattle.nodes.specs.Mask.{only, low_first, row_mask};
+ghost use Rattle.std.specs.Iterator.{at_most};
+ghost use Rattle.nodes.specs.Mask.{only, row_mask, TakesLowest};
 
 use trade::Node;
 
@@ -23,42 +24,13 @@ pub(crate) fn has(set: u64, x: Node) -> bool
     (set >> x.0) % 2 == 1
 }
 
-// Two parts of a number, the higher of them above so many bits of the lower.
-fn joined(high: u64, low: u64, bits: u32) -> u64
-    requires { (bits < 64) × (low < 2 ^ bits) × (high * 2 ^ bits < 2 ^ 64) }
-    ensures { result ≡ high * 2 ^ bits + low }
-{
-    (high << bits) | low
-}
-
-// Two, four and eight bytes as one number, the first the lowest.
-fn two(bytes: &[u8], at: usize) -> u64
-    requires { at + 2 ≤ length bytes.now }
-    ensures { result ≡ low_first bytes.now at 2 }
-{
-    joined(bytes[at + 1] as u64, bytes[at] as u64, 8)
-}
-
-fn four(bytes: &[u8], at: usize) -> u64
-    requires { at + 4 ≤ length bytes.now }
-    ensures { result ≡ low_first bytes.now at 4 }
-{
-    joined(two(bytes, at + 2), two(bytes, at), 16)
-}
-
-fn eight(bytes: &[u8], at: usize) -> u64
-    requires { at + 8 ≤ length bytes.now }
-    ensures { result ≡ low_first bytes.now at 8 }
-{
-    joined(four(bytes, at + 4), four(bytes, at), 32)
-}
-
 // The nodes that the node of this number disturbs: its row.
 pub fn row_at(rows: &[u8], x: usize) -> u64
     requires { row_bytes * x + row_bytes ≤ length rows.now }
     ensures { result ≡ row_mask rows.now x }
 {
-    eight(rows, Node::ROW_BYTES * x)
+    let (rows, _) = rows.as_chunks::<{ Node::ROW_BYTES }>();
+    u64::from_le_bytes(rows[x])
 }
 
 // The nodes that a node disturbs.
@@ -66,5 +38,26 @@ pub fn row_mask(rows: &[u8], x: Node) -> u64
     requires { InNetwork rows.now x }
     ensures { result ≡ row_mask rows.now x.0 }
 {
-    eight(rows, Node::ROW_BYTES * (x.0 as usize))
+    row_at(rows, x.0 as usize)
+}
+
+// The nodes of a set, the lowest first.
+#[derive(Drop)]
+pub struct Members(pub u64);
+
+impl Iterator for Members {
+    type Item = Node;
+
+    ghost next_gives = { TakesLowest };
+
+    ghost remaining = { λ s. at_most s.0 };
+
+    fn next(&mut self) -> Option<Node> {
+        if self.0 == 0 {
+            return None;
+        }
+        let x = self.0.trailing_zeros() as u8;
+        self.0 &= self.0 - 1;
+        Some(Node(x))
+    }
 }

@@ -5,7 +5,7 @@ use mathlib.Core.List.{List, ◌++◌, append_assoc, append-nil}
 use native.Mathlib.Nat.{zero-add}
 use native.Mathlib.Omega.{arith}
 use lib.ListN.{length, take, drop, length-append, replicate, drop_of_length-le}
-use lib.Seq.{length-take-le, take-length, drop-drop, take-append_seam, drop-append-add}
+use lib.Seq.{take-length, drop-drop, take-append_seam, drop-append-add}
 use borrow.Rule.Slice.PartMut.{put_mid, Post-is}
 use Rattle.trade.specs.Bytes.{over, padded}
 use Rattle.numbers.specs.Pasting.{pasted_at}
@@ -48,26 +48,6 @@ pasted_next front src d =
 pub pasted_behind :
     (at : ℕ) (front src d e : List ℕ) → length front ≡ at → e ≡ over front d → pasted_at at src e ≡ over (front ++ src) d
 pasted_behind at front src d e n p = ap₂ (λ (k : ℕ) (x : List ℕ). pasted_at k src x) (sym n) p ∙ pasted_next front src d
-
--- what is put right behind what was put at a place
-pub pasted_on :
-    (at : ℕ) (a b d : List ℕ)
-    → at + length a ≤ length d
-    → pasted_at (at + length a) b (pasted_at at a d) ≡ pasted_at at (a ++ b) d
-unfolding pasted_at
-pasted_on at a b d h =
-    let front : List ℕ = take at d ++ a in
-    let ends : length (take at d ++ a) + length b ≡ at + (length a + length b) =
-    rw (length-append, length-take-le at d (omega arith)) (omega arith) in
-    let size : at + length a ≡ length front = sym (length-append (take at d) a ∙ ap (λ (k : ℕ). k + length a) (length-take-le at d (omega arith))) in
-    rw (
-      size,
-      take-append_seam front (drop (length front) d),
-      drop-append-add front (drop (length front) d) (length b),
-      drop-drop (length b) (length front) d,
-      length-append a b,
-    )
-    (ap₂ (λ (x : List ℕ) (k : ℕ). x ++ drop k d) (append_assoc (take at d) a b) ends)
 
 -- what is put at the front of the buffer
 pub pasted_first : (src d : List ℕ) → pasted_at 0 src d ≡ over src d

@@ -11,9 +11,7 @@ pub fn word_at(s: &[u8], at: usize) -> u16
     requires { at + 1 < length s.now }
     ensures { result ≡ word s.now at }
 {
-    let high = s[at] as u16;
-    let low = s[at + 1] as u16;
-    high * 256 + low
+    u16::from_be_bytes([s[at], s[at + 1]])
 }
 
 // The four bytes from a place on.
@@ -21,9 +19,7 @@ pub fn long_at(s: &[u8], at: usize) -> u32
     requires { at + 3 < length s.now }
     ensures { result ≡ long s.now at }
 {
-    let high = word_at(s, at) as u32;
-    let low = word_at(s, at + 2) as u32;
-    high * WORDS + low
+    u32::from_be_bytes([s[at], s[at + 1], s[at + 2], s[at + 3]])
 }
 
 // A number put into the two bytes from a place on.
@@ -31,8 +27,7 @@ pub fn put_word(buffer: &mut [u8], at: usize, n: u16)
     requires { at + 1 < length buffer.old }
     ensures { buffer.new ≡ pasted_at at (two_bytes n) buffer.old }
 {
-    buffer[at] = (n / 256 % 256) as u8;
-    buffer[at + 1] = (n % 256) as u8;
+    buffer[at..at + 2].copy_from_slice(&n.to_be_bytes());
 }
 
 // A number put into the four bytes from a place on.
@@ -40,6 +35,5 @@ pub fn put_long(buffer: &mut [u8], at: usize, n: u32)
     requires { at + 3 < length buffer.old }
     ensures { buffer.new ≡ pasted_at at (four_bytes n) buffer.old }
 {
-    put_word(buffer, at, (n / WORDS) as u16);
-    put_word(buffer, at + 2, (n % WORDS) as u16);
+    buffer[at..at + 4].copy_from_slice(&n.to_be_bytes());
 }

@@ -1,7 +1,7 @@
 -- Marks spread over the nodes of sets, and collected from them: the columns of a plan. Leans on Bits and Counts. Assumes nothing.
-use Prim.Native.Nat.{ℕ, suc, ◌+◌, ◌-◌, ◌/◌, ◌%◌, ◌^◌, ◌≤◌, ◌<◌}
+use Prim.Native.Nat.{ℕ, suc, ◌+◌, ◌/◌, ◌%◌, ◌^◌, ◌≤◌, ◌<◌}
 use mathlib.Core.Path.{◌≡◌, refl, sym, ◌∙◌, ap, ap₂}
-use mathlib.Core.Bool.{Bool, true, false, not, cond, ◌&&◌, ◌||◌, or_comm, or-false, or_assoc, and-false, and-true}
+use mathlib.Core.Bool.{Bool, true, false, not, cond, ◌&&◌, ◌||◌, or_comm, or-false, and-false, and-true}
 use mathlib.Core.Logic.{◌⊎◌, inl, inr, ⊎_elim}
 use mathlib.Core.List.{List}
 use native.Mathlib.Omega.{arith}
@@ -18,10 +18,9 @@ use Rattle.trade.specs.Limits.{most_nodes, most_steps}
 use Rattle.trade.specs.Facts.{disturbs_in}
 use Rattle.trade.specs.declared.node.Transmission.{Transmission}
 use Rattle.trade.proofs.First.{lt_or_ge, bool_cases, some_true, some_false, some_intro, some_none}
-use Rattle.nodes.specs.Mask.{only, row_mask}
+use Rattle.nodes.specs.Mask.{only, row_mask, Taken}
 use Rattle.pairs.specs.Columns.{Spread, from_end, ending, Heard, receiving, sending, Columns, Noted}
 use Rattle.nodes.proofs.MaskLaws.{bit_none, bit_or_lem, bit_and_lem, bit_xor_lem, bit_only, bit_below, bit_past}
-use Rattle.nodes.proofs.LowestLaws.{Lowest}
 
 -- so many zeros, and zeros past them
 pub zeros : (n i : ℕ) → get_or {A = ℕ} (replicate n 0) i 0 ≡ 0
@@ -31,8 +30,8 @@ zeros n i =
     (lt_or_ge i n)
 
 -- what is left without its lowest is left
-left_over : (rest p : ℕ) → Lowest rest p → (x : ℕ) → bit (bit_and rest (rest - 1)) x ≡ true → bit rest x ≡ true
-left_over rest p low x e = both (bit rest x) (sym (low.cleared x) ∙ e)
+left_over : (rest p others : ℕ) → Taken rest p others → (x : ℕ) → bit others x ≡ true → bit rest x ≡ true
+left_over rest p others low x e = both (bit rest x) (sym (low.left x) ∙ e)
   where
     both : (a : Bool) → (a && not (eqb p x)) ≡ true → a ≡ true
     both true e = refl
@@ -54,30 +53,30 @@ module _ (nodes mark : ℕ) (before : List ℕ) where
 
   -- one node more
   pub spreading_more :
-      (rest p : ℕ) (table : List ℕ)
-      → Lowest rest p
+      (rest p others : ℕ) (table : List ℕ)
+      → Taken rest p others
       → p < length table
       → Spreading nodes mark rest before table
-      → Spreading nodes mark (bit_and rest (rest - 1)) before (set table p (bit_or (get_or table p 0) mark))
-  spreading_more rest p table low l s =
+      → Spreading nodes mark others before (set table p (bit_or (get_or table p 0) mark))
+  spreading_more rest p others table low l s =
       record {
         size = length-set table p (bit_or (get_or table p 0) mark) ∙ s.size;
-        within = λ x e. s.within x (left_over rest p low x e);
+        within = λ x e. s.within x (left_over rest p others low x e);
         marked = λ x. other x (lt_or_ge x p) (lt_or_ge p x);
       }
     where
-      apart : (x : ℕ) → (p ≡ x → ⊥) → get_or (set table p (bit_or (get_or table p 0) mark)) x 0 ≡ bit_or (get_or before x 0) (cond (bit nodes x && not (bit (bit_and rest (rest - 1)) x)) mark 0)
+      apart : (x : ℕ) → (p ≡ x → ⊥) → get_or (set table p (bit_or (get_or table p 0) mark)) x 0 ≡ bit_or (get_or before x 0) (cond (bit nodes x && not (bit others x)) mark 0)
       apart x n =
-          let same : bit (bit_and rest (rest - 1)) x ≡ bit rest x = low.cleared x ∙ rw (ne_eqb p x n) (and-true (bit rest x)) in
+          let same : bit others x ≡ bit rest x = low.left x ∙ rw (ne_eqb p x n) (and-true (bit rest x)) in
           get_or-set_other table p x (bit_or (get_or table p 0) mark) 0 (λ e. n (sym e)) ∙ rw same (s.marked x)
 
-      here : get_or (set table p (bit_or (get_or table p 0) mark)) p 0 ≡ bit_or (get_or before p 0) (cond (bit nodes p && not (bit (bit_and rest (rest - 1)) p)) mark 0)
+      here : get_or (set table p (bit_or (get_or table p 0) mark)) p 0 ≡ bit_or (get_or before p 0) (cond (bit nodes p && not (bit others p)) mark 0)
       here =
-          let gone : bit (bit_and rest (rest - 1)) p ≡ false = low.cleared p ∙ rw (eq-eqb p p refl, low.set) refl in
-          let left : get_or table p 0 ≡ get_or before p 0 = s.marked p ∙ rw (low.set, s.within p low.set) (or_zero_r (get_or before p 0)) in
-          get_or-set_same table p (bit_or (get_or table p 0) mark) 0 l ∙ rw (left, gone, s.within p low.set) refl
+          let gone : bit others p ≡ false = low.left p ∙ rw (eq-eqb p p refl, low.held) refl in
+          let left : get_or table p 0 ≡ get_or before p 0 = s.marked p ∙ rw (low.held, s.within p low.held) (or_zero_r (get_or before p 0)) in
+          get_or-set_same table p (bit_or (get_or table p 0) mark) 0 l ∙ rw (left, gone, s.within p low.held) refl
 
-      other : (x : ℕ) → (x < p) ⊎ (p ≤ x) → (p < x) ⊎ (x ≤ p) → get_or (set table p (bit_or (get_or table p 0) mark)) x 0 ≡ bit_or (get_or before x 0) (cond (bit nodes x && not (bit (bit_and rest (rest - 1)) x)) mark 0)
+      other : (x : ℕ) → (x < p) ⊎ (p ≤ x) → (p < x) ⊎ (x ≤ p) → get_or (set table p (bit_or (get_or table p 0) mark)) x 0 ≡ bit_or (get_or before x 0) (cond (bit nodes x && not (bit others x)) mark 0)
       other x (inl h) g = apart x (λ e. omega arith)
       other x (inr h) (inl g) = apart x (λ e. omega arith)
       other x (inr h) (inr g) = let e : x ≡ p = omega arith in rw e here
@@ -179,12 +178,10 @@ module _ (u : Transmission) where
       → ((x : ℕ) → test j x ≡ ending u x)
       → ((x : ℕ) → bit nodes x ≡ some (λ i. test i x) j)
       → (x : ℕ)
-      → bit (bit_or (bit_or nodes (only u.sender.0)) (only u.receiver.0)) x ≡ some (λ i. test i x) (suc j)
-  unfolding ending
+      → bit (bit_or nodes (bit_or (only u.sender.0) (only u.receiver.0))) x ≡ some (λ i. test i x) (suc j)
   ends_more nodes j test is s x =
-      bit_or_lem (bit_or nodes (only u.sender.0)) (only u.receiver.0) x
-      ∙ rw (bit_or_lem nodes (only u.sender.0) x, bit_only u.sender.0 x, bit_only u.receiver.0 x, s x)
-      (or_assoc (some (λ i. test i x) j) (eqb u.sender.0 x) (eqb u.receiver.0 x) ∙ rw (← is x) (sym (some_next (λ i. test i x) j)))
+      bit_or_lem nodes (bit_or (only u.sender.0) (only u.receiver.0)) x
+      ∙ rw (both_ends x, s x, ← is x) (sym (some_next (λ i. test i x) j))
 
   -- two marks, those of both sets spread first and at once
   pub noted :
@@ -315,16 +312,16 @@ module _ (rows : List ℕ) (nodes : ℕ) (before : List ℕ) where
 
   -- one node more
   pub hearing_more :
-      (rest p : ℕ) (table after : List ℕ)
+      (rest p left : ℕ) (table after : List ℕ)
       → ((y : ℕ) → y < most_nodes → bit (row_mask rows p) y ≡ disturbs_in rows p y)
-      → Lowest rest p
+      → Taken rest p left
       → Spread (row_mask rows p) (2 ^ p) table after
       → Hearing rows nodes rest before table
-      → Hearing rows nodes (bit_and rest (rest - 1)) before after
-  hearing_more rest p table after row low s g =
+      → Hearing rows nodes left before after
+  hearing_more rest p left table after row low s g =
       record {
         size = s.size ∙ g.size;
-        within = λ x e. g.within x (left_over rest p low x e);
+        within = λ x e. g.within x (left_over rest p left low x e);
         bits =
             λ y x h.
             spread_bit (row_mask rows p) p table after s y x
@@ -337,15 +334,15 @@ module _ (rows : List ℕ) (nodes : ℕ) (before : List ℕ) where
           (y x : ℕ)
           → p ≡ x
           → (((bit nodes x && not (bit rest x)) && disturbs_in rows x y) || (eqb p x && disturbs_in rows p y))
-          ≡ ((bit nodes x && not (bit (bit_and rest (rest - 1)) x)) && disturbs_in rows x y)
-      here y x q = rw (← q, low.cleared p, eq-eqb p p refl, low.set, g.within p low.set) refl
+          ≡ ((bit nodes x && not (bit left x)) && disturbs_in rows x y)
+      here y x q = rw (← q, low.left p, eq-eqb p p refl, low.held, g.within p low.held) refl
 
       apart :
           (y x : ℕ)
           → eqb p x ≡ false
           → (((bit nodes x && not (bit rest x)) && disturbs_in rows x y) || (eqb p x && disturbs_in rows p y))
-          ≡ ((bit nodes x && not (bit (bit_and rest (rest - 1)) x)) && disturbs_in rows x y)
-      apart y x q = rw (low.cleared x, q, and-true (bit rest x)) (or-false ((bit nodes x && not (bit rest x)) && disturbs_in rows x y))
+          ≡ ((bit nodes x && not (bit left x)) && disturbs_in rows x y)
+      apart y x q = rw (low.left x, q, and-true (bit rest x)) (or-false ((bit nodes x && not (bit rest x)) && disturbs_in rows x y))
 
   pub hearing_all : (table : List ℕ) → Hearing rows nodes 0 before table → Heard rows nodes before table
   hearing_all table g =

@@ -9,7 +9,7 @@ ghost use Rattle.nodes.specs.Network.{Within};
 ghost use Rattle.plans.specs.Plan.{AllWithin};
 ghost use Rattle.pairs.specs.Columns.{Spread, nodes_in, ending, Heard, Noted, Gathered, marked_at};
 
-use nodes::mask::{only, row_at, row_mask};
+use nodes::mask::{Members, only, row_mask};
 use plans::steps::{step_at, step_count};
 use trade::{Node, Plan, Transmission};
 
@@ -18,11 +18,8 @@ fn spread(table: &mut [u64], nodes: u64, mark: u64)
     requires { most_nodes ≤ length table.old }
     ensures { Spread nodes mark table.old table.new }
 {
-    let mut rest = nodes;
-    while rest != 0 {
-        let x = u64::trailing_zeros(rest) as usize;
-        table[x] = table[x] | mark;
-        rest = rest & (rest - 1);
+    for x in Members(nodes) {
+        table[x.0 as usize] |= mark;
     }
 }
 
@@ -32,11 +29,9 @@ pub fn nodes_in(steps: &[u8], count: usize) -> u64
     ensures { (x : ℕ) → bit result x ≡ some (λ j. ending (step_in steps.now j) x) count }
 {
     let mut nodes: u64 = 0;
-    let mut j = 0;
-    while j < count {
+    for j in 0..count {
         let u = step_at(steps, j);
-        nodes = nodes | only(u.sender) | only(u.receiver);
-        j += 1;
+        nodes |= only(u.sender) | only(u.receiver);
     }
     nodes
 }
@@ -46,11 +41,8 @@ pub fn hear(rows: &[u8], nodes: u64, table: &mut [u64])
     requires { ((x : ℕ) → bit nodes x ≡ true → x < nodes_in rows.now) × (most_nodes ≤ length table.old) × ((y : ℕ) → y < most_nodes → get_or table.old y 0 ≡ 0) }
     ensures { Heard rows.now nodes table.old table.new }
 {
-    let mut rest = nodes;
-    while rest != 0 {
-        let x = u64::trailing_zeros(rest) as usize;
-        spread(table, row_at(rows, x), 1 << x);
-        rest = rest & (rest - 1);
+    for x in Members(nodes) {
+        spread(table, row_mask(rows, x), only(x));
     }
 }
 
@@ -77,10 +69,8 @@ pub fn gather(rows: &[u8], heard: &[u64], plan: &[u8], columns: &mut [u64])
     ensures { Gathered rows.now heard.now plan.now columns.old columns.new }
 {
     let len = step_count(plan);
-    let mut b = 0;
-    while b < len {
+    for b in 0..len {
         note(rows, heard, step_at(plan, len - 1 - b), b, columns);
-        b += 1;
     }
 }
 

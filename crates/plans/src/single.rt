@@ -12,12 +12,7 @@ fn is_again(plan: &[u8], k: usize) -> bool
     requires { step_bytes * k + 1 < length plan.now }
     ensures { result ≡ again plan.now k }
 {
-    if k == 0 {
-        return false;
-    }
-    let u = step_at(plan, k - 1);
-    let v = step_at(plan, k);
-    (u.sender.0 == v.sender.0) & (u.receiver.0 == v.receiver.0)
+    k > 0 && step_at(plan, k - 1) == step_at(plan, k)
 }
 
 // A step written at a place.
@@ -37,13 +32,11 @@ pub fn single(plan: &[u8], out: &mut [u8]) -> usize
 {
     let len = step_count(plan);
     let mut found = 0;
-    let mut k = 0;
-    while k < len {
+    for k in 0..len {
         if !is_again(plan, k) {
             put_step(out, found, step_at(plan, k));
             found += 1;
         }
-        k += 1;
     }
     found
 }

@@ -25,7 +25,7 @@ pub fn step_count(steps: &[u8]) -> usize
     steps.len() / Plan::STEP_BYTES
 }
 
-// The step at any place: 0 to 0 where the part holds none.
+// The step at any place: 0 to 0 where the part holds none. Not an Option, since callers are promised `step_or`.
 pub fn step_or_none(steps: &[u8], k: usize) -> Transmission
     ensures { result ≡ step_or steps.now k }
 {

@@ -4,11 +4,4 @@ use Rattle.nodes.proofs.conflict.conflict.Goals as goal
 
 pub returns : goal.returns
 unfolding conflict
-returns c =
-    rw (
-      c.meet.ensures,
-      c.disturbs.ensures,
-      c.disturbs-2.ensures,
-      c.disturbs-3.ensures,
-      c.disturbs-4.ensures,
-    )
+returns c = cc

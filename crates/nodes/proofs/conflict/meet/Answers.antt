@@ -1,8 +1,7 @@
 -- `nodes::conflict::meet` is the definition, test by test. Assumes nothing.
-use mathlib.Core.Path.{refl}
 use Rattle.trade.specs.Conflict.{meet}
 use Rattle.nodes.proofs.conflict.meet.Goals as goal
 
 pub returns : goal.returns
 unfolding meet
-returns c = refl
+returns c = cc

@@ -1,18 +1,15 @@
--- `numbers::numbers::put_long` stores the two words of a number, one behind the other. Assumes nothing.
-use Prim.Native.Nat.{◌+◌, ◌/◌, ◌%◌}
-use mathlib.Core.Path.{◌∙◌, ap}
-use native.Mathlib.Omega.{arith}
+-- `numbers::numbers::put_long` stores the four bytes of a number, which are those of its two words, the higher first. Assumes nothing.
+use mathlib.Core.Path.{◌≡◌, ◌∙◌}
+use borrow.Author.Rules.{rules}
+use Rattle.std.specs.Int.{w32, to_be_bytes}
 use Rattle.trade.specs.Bytes.{two_bytes, four_bytes}
-use Rattle.numbers.specs.Pasting.{pasted_at}
-use Rattle.numbers.proofs.PastingLaws.{pasted_on}
+use Rattle.numbers.proofs.PastingLaws.{pasted_whole}
 use Rattle.numbers.proofs.numbers.put_long.Goals as goal
 
 pub returns : goal.returns
 unfolding two_bytes four_bytes
 returns c =
     let a = c.args in
-    let high = two_bytes (a.n / 65536) in
-    let low = two_bytes (a.n % 65536) in
-    c.put_word-2.ensures
-    ∙ ap (pasted_at (a.at + 2) low) c.put_word.ensures
-    ∙ pasted_on a.at high low a.buffer.now (omega arith)
+    let same : to_be_bytes w32 a.n ≡ four_bytes a.n = search rules in
+    let bytes : c.to_be_bytes.result ≡ four_bytes a.n = c.to_be_bytes.ensures ∙ same in
+    rw (c.copy_from_slice.ensures.after, bytes) (pasted_whole a.at (four_bytes a.n) a.buffer.now)

@@ -1,5 +1,5 @@
 -- `pairs::columns::gather` notes the steps from the last on. The loop's invariant: the columns hold the last b steps, and what lies beyond
--- them is as lent. The measure is how many steps are left. Assumes nothing.
+-- them is as lent. Assumes nothing.
 use Prim.Native.Nat.{ℕ, suc, ◌-◌}
 use mathlib.Core.Path.{◌≡◌, refl, ◌∙◌}
 use native.Mathlib.Omega.{arith}
@@ -9,19 +9,19 @@ use Rattle.pairs.proofs.SpreadLaws.{columns_none, columns_more}
 use Rattle.pairs.proofs.columns.gather.Goals as goal
 
 pub loop-b-init : goal.loop-b-init
-loop-b-init c = (omega arith, c.step_count-len.ensures, refl, columns_none _ _ _ _ c.requires.4, λ x h. refl)
+loop-b-init c = (c.step_count-len.ensures, refl, columns_none _ _ _ _ c.requires.4, λ x h. refl)
 
 pub step_at-requires : goal.step_at-requires
-step_at-requires c = omega (arith, c.loop-b.invariant.1)
+step_at-requires c = omega (arith, c.loop-b.invariant.0)
 
 pub note-requires : goal.note-requires
 note-requires c =
     let loop = c.loop-b in
     let len : ℕ = c.step_count-len.result in (
-      rw c.step_at.ensures (c.requires.1 (len - 1 - loop.b) (omega (arith, loop.invariant.1))),
-      omega (arith, loop.invariant.1, c.requires.0),
+      rw c.step_at.ensures (c.requires.1 (len - 1 - loop.b) (omega (arith, loop.invariant.0))),
+      omega (arith, loop.invariant.0, c.requires.0),
       c.requires.2,
-      omega (arith, loop.invariant.2, c.requires.3),
+      omega (arith, loop.invariant.1, c.requires.3),
     )
 
 pub loop-b-preserved : goal.loop-b-preserved
@@ -30,18 +30,17 @@ loop-b-preserved c =
     let plan = c.args.plan.now in
     let len : ℕ = c.step_count-len.result in
     let noted = c.note.ensures in
-    let e : len - 1 - loop.b ≡ steps_in plan - suc loop.b = omega (arith, loop.invariant.1) in
+    let e : len - 1 - loop.b ≡ steps_in plan - suc loop.b = omega (arith, loop.invariant.0) in
     rw (add-one loop.b) (
-      omega arith,
-      loop.invariant.1,
-      noted.size ∙ loop.invariant.2,
+      loop.invariant.0,
+      noted.size ∙ loop.invariant.1,
       columns_more c.args.rows.now c.args.heard.now plan loop.b loop.columns c.note.new.columns
-          (omega (arith, loop.invariant.1, c.requires.0)) (rw (c.step_at.ensures, e) at noted) loop.invariant.3,
-      λ x h. noted.others x h ∙ loop.invariant.4 x h,
+          (omega (arith, loop.invariant.0, c.requires.0)) (rw (c.step_at.ensures, e) at noted) loop.invariant.2,
+      λ x h. noted.others x h ∙ loop.invariant.3 x h,
     )
 
 pub returns : goal.returns
 returns c =
     let loop = c.loop-b in
-    let all : loop.b ≡ steps_in c.args.plan.now = omega (arith, loop.invariant.1) in
-    record { size = loop.invariant.2; columns = rw (← all) loop.invariant.3; others = loop.invariant.4 }
+    let all : loop.b ≡ steps_in c.args.plan.now = omega (arith, loop.invariant.0) in
+    record { size = loop.invariant.1; columns = rw (← all) loop.invariant.2; others = loop.invariant.3 }

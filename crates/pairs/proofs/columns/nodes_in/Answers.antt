@@ -1,5 +1,4 @@
--- `pairs::columns::nodes_in` joins the ends of the steps. The loop's invariant: the set has those of the first j. The measure is how many
--- steps are left. Assumes nothing.
+-- `pairs::columns::nodes_in` joins the ends of the steps. The loop's invariant: the set has those of the first j. Assumes nothing.
 use mathlib.Core.Path.{◌≡◌, refl}
 use native.Mathlib.Omega.{arith}
 use native.Mathlib.Numerals.{add-one}
@@ -9,7 +8,7 @@ use Rattle.pairs.proofs.SpreadLaws.{ends_none, ends_more}
 use Rattle.pairs.proofs.columns.nodes_in.Goals as goal
 
 pub loop-j-init : goal.loop-j-init
-loop-j-init c = (omega arith, ends_none _)
+loop-j-init c = ends_none _
 
 pub step_at-u-requires : goal.step_at-u-requires
 step_at-u-requires c = omega (arith, c.requires.0)
@@ -24,14 +23,11 @@ pub loop-j-preserved : goal.loop-j-preserved
 loop-j-preserved c =
     let loop = c.loop-j in
     let steps = c.args.steps.now in
-    rw (add-one loop.j) (
-      omega arith,
-      rw (c.only.ensures, c.only-in-loop-j.ensures, c.step_at-u.ensures)
-          (ends_more (step_in steps loop.j) loop.nodes loop.j (λ i x. ending (step_in steps i) x) (λ x. refl) loop.invariant.1),
-    )
+    rw (add-one loop.j, c.only.ensures, c.only-in-loop-j.ensures, c.step_at-u.ensures)
+    (ends_more (step_in steps loop.j) loop.nodes loop.j (λ i x. ending (step_in steps i) x) (λ x. refl) loop.invariant)
 
 pub returns : goal.returns
 returns c =
     let loop = c.loop-j in
-    let all : loop.j ≡ c.args.count = omega (arith, loop.invariant.0) in
-    rw (← all) loop.invariant.1
+    let all : loop.j ≡ c.args.count = omega arith in
+    rw (← all) loop.invariant

@@ -1,11 +1,7 @@
--- `pairs::columns::spread` sets the mark at the lowest node that is left, and goes on without it. The loop's invariant: the nodes that are
--- not left have the mark. The measure is what is left, as a number. Assumes nothing.
-use Prim.Native.Nat.{◌≤◌}
+-- `pairs::columns::spread` sets the mark at each node of the set. The loop's invariant: the nodes that are not left have the mark.
+-- Assumes nothing.
 use Rattle.pairs.proofs.SpreadLaws.{Spreading}
 use Rattle.pairs.proofs.columns.spread.Given as goal
 
-abbrev pub invariant-loop-rest : goal.invariant-loop-rest
-invariant-loop-rest l = Spreading l.nodes l.mark l.rest l.initial.table l.table × (l.rest ≤ l.nodes)
-
-abbrev pub decreases-loop-rest : goal.decreases-loop-rest
-decreases-loop-rest l = l.rest
+abbrev pub invariant-loop-x : goal.invariant-loop-x
+invariant-loop-x l = Spreading l.nodes l.mark l.x-iterator.0 l.initial.table l.table

@@ -1,5 +1,5 @@
--- `plans::single::single` writes each step that is no repeat behind those before it. The loop's invariant: the first k steps stand so. The
--- measure is how many steps are left. Assumes nothing.
+-- `plans::single::single` writes each step that is no repeat behind those before it. The loop's invariant: the first k steps stand so.
+-- Assumes nothing.
 use Prim.Native.Nat.{◌+◌, ◌*◌, ◌<◌}
 use mathlib.Core.Path.{◌≡◌, refl, sym, ◌∙◌}
 use native.Mathlib.Omega.{arith}
@@ -14,27 +14,15 @@ use Rattle.plans.proofs.single.single.Goals.{then-not-is_again, else-not-is_agai
 
 pub loop-k-init : goal.loop-k-init
 unfolding singles
-loop-k-init c = (omega arith, c.step_count-len.ensures, refl, singled_none _ _)
-
-pub is_again-requires : goal.is_again-requires
-is_again-requires c = omega (arith, c.loop-k.invariant.1)
-
-pub step_at-requires : goal.step_at-requires
-step_at-requires c = omega (arith, c.loop-k.invariant.1)
+loop-k-init c = (c.step_count-len.ensures, refl, singled_none _ _)
 
 pub put_step-requires : goal.put_step-requires
 put_step-requires c =
     let loop = c.loop-k in
-    omega (arith, loop.invariant.1, loop.invariant.2, singles_most c.args.plan.now loop.k, loop.invariant.3.size, c.requires)
+    omega (arith, loop.invariant.0, loop.invariant.1, singles_most c.args.plan.now loop.k, loop.invariant.2.size, c.requires)
 
 pub overflow_add-found : goal.overflow_add-found
-overflow_add-found c = record { fits = omega (arith, c.loop-k.invariant.2, singles_most c.args.plan.now c.loop-k.k) }
-
-pub overflow_add-k : goal.overflow_add-k
-overflow_add-k c = record { fits = omega arith }
-
-pub loop-k-smaller : goal.loop-k-smaller
-loop-k-smaller c = omega arith
+overflow_add-found c = record { fits = omega (arith, c.loop-k.invariant.1, singles_most c.args.plan.now c.loop-k.k) }
 
 pub loop-k-preserved : goal.loop-k-preserved
 loop-k-preserved c =
@@ -42,25 +30,21 @@ loop-k-preserved c =
     let loop = c.loop-k in
     let known = c.is_again.ensures in
     rw (add-one loop.k) (
-      omega arith,
-      loop.invariant.1,
+      loop.invariant.0,
       elim c.if-not-is_again.branch [
-        | then-not-is_again w ↦ rw w.found-is (omega (arith, loop.invariant.2, singles_new plan loop.k (sym known ∙ w.if-not-is_again.true)))
-        | else-not-is_again w ↦ rw w.found-is (loop.invariant.2 ∙ sym (singles_again plan loop.k (sym known ∙ w.if-not-is_again.false)))
+        | then-not-is_again w ↦ rw w.found-is (omega (arith, loop.invariant.1, singles_new plan loop.k (sym known ∙ w.if-not-is_again.true)))
+        | else-not-is_again w ↦ rw w.found-is (loop.invariant.1 ∙ sym (singles_again plan loop.k (sym known ∙ w.if-not-is_again.false)))
       ],
       elim c.if-not-is_again.branch [
         | then-not-is_again w ↦
-            let room : step_bytes * singles plan loop.k + 1 < length loop.out = omega (arith, loop.invariant.1, loop.invariant.2, singles_most plan loop.k, loop.invariant.3.size, c.requires) in
-            rw (w.out-is, w.put_step.ensures, w.step_at.ensures, loop.invariant.2) (singled_new plan loop.k c.args.out.now loop.out (sym known ∙ w.if-not-is_again.true) room loop.invariant.3)
-        | else-not-is_again w ↦ rw w.out-is (singled_again plan loop.k c.args.out.now loop.out (sym known ∙ w.if-not-is_again.false) loop.invariant.3)
+            let room : step_bytes * singles plan loop.k + 1 < length loop.out = omega (arith, loop.invariant.0, loop.invariant.1, singles_most plan loop.k, loop.invariant.2.size, c.requires) in
+            rw (w.out-is, w.put_step.ensures, w.step_at.ensures, loop.invariant.1) (singled_new plan loop.k c.args.out.now loop.out (sym known ∙ w.if-not-is_again.true) room loop.invariant.2)
+        | else-not-is_again w ↦ rw w.out-is (singled_again plan loop.k c.args.out.now loop.out (sym known ∙ w.if-not-is_again.false) loop.invariant.2)
       ],
     )
-
-pub shape_of-out : goal.shape_of-out
-shape_of-out c = c.loop-k.invariant.3.size
 
 pub returns : goal.returns
 returns c =
     let loop = c.loop-k in
-    let all : loop.k ≡ steps_in c.args.plan.now = omega (arith, loop.invariant.1) in
-    rw (← all) (loop.invariant.3, loop.invariant.2)
+    let all : loop.k ≡ steps_in c.args.plan.now = omega (arith, loop.invariant.0) in
+    rw (← all) (loop.invariant.2, loop.invariant.1)

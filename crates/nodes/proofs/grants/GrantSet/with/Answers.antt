@@ -7,7 +7,6 @@ use Rattle.nodes.proofs.grants.GrantSet.with.Goals as goal
 pub returns : goal.returns
 unfolding one_more
 returns c =
-    let known = c.shared_slice_known-1 in
     let sender = c.only.ensures in
     let receiver = c.only-2.ensures in
     let row = c.row_mask.ensures in
@@ -17,5 +16,5 @@ returns c =
       holds =
           λ us h.
           rw (sender, receiver, row, other)
-          (holds_more c.args.rows.now (λ i. omega (arith, known.given i)) c.args.self us c.args.t c.requires h);
+          (holds_more c.args.rows.now (λ i. omega (arith, c.type_inv.rows i)) c.args.self us c.args.t c.requires h);
     }

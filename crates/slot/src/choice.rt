@@ -27,12 +27,7 @@ pub struct Choice {
 }
 
 // One flow's turn: its next step joins the set and is sent, unless the flow has finished or the step conflicts with a grant already made.
-fn take_turn(
-    rows: &[u8],
-    steps: &[u8],
-    turn: Turn,
-    set: &mut GrantSet,
-) -> Option<Transmission>
+fn take_turn(rows: &[u8], steps: &[u8], turn: Turn, set: &mut GrantSet) -> Option<Transmission>
     requires { Turning rows.now steps.now turn }
     ensures { Turned rows.now steps.now turn set.old result set.new }
 {

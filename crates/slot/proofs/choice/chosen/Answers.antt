@@ -27,18 +27,6 @@ take_turn-requires c =
     rw (loop.invariant.0, c.len_at-len.ensures.0)
     (turn_asks a.flows a.rows.now a.records.now a.steps.now (record { slot = 0; done = place_of a.run.flows }) c.requires.0 loop.i c.loop-i-test.true)
 
-pub overflow_cast-places : goal.overflow_cast-places
-overflow_cast-places c = omega (arith, c.loop-i-test.true, c.requires.0.most)
-
-pub overflow_shl-places : goal.overflow_shl-places
-overflow_shl-places c = omega (arith, c.loop-i-test.true, c.requires.0.most)
-
-pub offset_bounds-sent-i : goal.offset_bounds-sent-i
-offset_bounds-sent-i c = omega (arith, c.loop-i-test.true, c.requires.0.most)
-
-pub bounds-sent-i : goal.bounds-sent-i
-bounds-sent-i c = omega (arith, c.loop-i-test.true, c.requires.0.most)
-
 pub overflow_add-start : goal.overflow_add-start
 unfolding first_step facts_of
 overflow_add-start c =
@@ -60,8 +48,7 @@ loop-i-preserved c =
     let a = c.args in
     let loop = c.loop-i in
     let taken = c.loop-i-test.true in
-    let len = c.len_at-len.ensures.0 in
-    (
+    let len = c.len_at-len.ensures.0 in (
       rw (add-one loop.i, sum_next (λ (k : ℕ). field a.records.now k 4) loop.i) (ap₂ ◌+◌ loop.invariant.0 len),
       rw (add-one loop.i)
           (elim c.match-take_turn.branch [

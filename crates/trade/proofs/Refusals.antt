@@ -4,8 +4,8 @@ use Prim.Native.Nat.{ℕ}
 use mathlib.Core.Path.{◌≡◌, refl, ap, sym, ◌∙◌}
 use mathlib.Core.Bool.{cond}
 use native.Mathlib.Omega.{arith}
-use Rattle.std.specs.Prelude.{Result, Ok, Err, eqb}
-use Rattle.trade.specs.Answers.{done}
+use Rattle.std.specs.Prelude.{Result, Ok, Err, IsErrAnd, eqb}
+use Rattle.std.proofs.lemmas.Result.{err_from_is_err_and}
 use Rattle.trade.specs.Refusals.{answer_of, answered, tested}
 use Rattle.trade.specs.declared.answer.Answer.{Answer}
 use Rattle.trade.specs.declared.refusal.Refusal.{Refusal}
@@ -85,3 +85,17 @@ one_number (Ok m) (Ok n) e = ap (λ (a : Answer). Ok a.number) e
 one_number (Ok m) (Err q) e = absurd (refuses q (sym (ap (λ (a : Answer). a.code) e)))
 one_number (Err r) (Ok n) e = absurd (refuses r (ap (λ (a : Answer). a.code) e))
 one_number (Err r) (Err q) e = ap Err (one_refusal e)
+
+-- what a `?` hands on is answered as the test that refused
+pub handed_on : {A : Type 0} (r : Result A Refusal) (refusal : Refusal) → IsErrAnd r (λ e. e ≡ refusal) → tested r ≡ answer_of refusal
+handed_on r refusal h =
+    let (e, is, same) = err_from_is_err_and r h in
+    rw (is, same) refl
+
+pub number_handed_on :
+    {A : Type 0} (number : A → ℕ) (r : Result A Refusal) (refusal : Refusal)
+    → IsErrAnd r (λ e. e ≡ refusal)
+    → answered number r ≡ answer_of refusal
+number_handed_on number r refusal h =
+    let (e, is, same) = err_from_is_err_and r h in
+    rw (is, same) refl

@@ -8,16 +8,15 @@ use Rattle.slot.proofs.Places.{stored, unstored}
 use Rattle.area.proofs.area.read_run.Goals as goal
 
 pub loop-i-init : goal.loop-i-init
-loop-i-init c = (omega arith, refl, λ k h. absurd (omega arith))
+loop-i-init c = (refl, λ k h. absurd (omega arith))
 
 pub loop-i-preserved : goal.loop-i-preserved
 unfolding state_in
 loop-i-preserved c =
     let loop = c.loop-i in (
-      omega arith,
-      simp length-set loop.invariant.1,
-      below_more _ _ (λ k h. unstored loop.flows loop.i k _ (λ e. omega arith) ∙ loop.invariant.2 k h)
-          (stored loop.flows loop.i _ (omega arith)),
+      simp length-set loop.invariant.0,
+      below_more _ _ (λ k h. unstored loop.flow-items loop.i k _ (λ e. omega arith) ∙ loop.invariant.1 k h)
+          (stored loop.flow-items loop.i _ (omega arith)),
     )
 
 pub returns : goal.returns
@@ -26,6 +25,6 @@ returns c =
     let loop = c.loop-i in
     record {
       slot = c.long_at.ensures;
-      size = loop.invariant.1;
-      places = λ i h. loop.invariant.2 i (omega arith);
+      size = loop.invariant.0;
+      places = λ i h. loop.invariant.1 i (omega arith);
     }

@@ -10,9 +10,6 @@ use Rattle.area.proofs.area.write_run.Given as goal
 
 abbrev pub invariant-loop-i : goal.invariant-loop-i
 invariant-loop-i l =
-    (l.i ≤ most_flows)
-    × (area_bytes ≤ length l.initial.area)
-    × (l.area ≡ pasted_at slot_bytes (list_to (place_of l.flows) l.i) l.initial.area)
+    (area_bytes ≤ length l.initial.area)
+    × (l.area ≡ pasted_at slot_bytes (list_to (place_of l.fn.run.flows) l.i) l.initial.area)
 
-abbrev pub decreases-loop-i : goal.decreases-loop-i
-decreases-loop-i l = most_flows - l.i

@@ -1,7 +1,7 @@
 -- One look at every flow of a slot, one flow at a time: what is seen of the flows passed is their releases, and whether a rule may refuse
 -- the run. Leans on the slot's Places and on RefusalsLaws. Assumes nothing.
 use Prim.Native.Nat.{ℕ, ◌+◌, ◌-◌, ◌%◌, ◌≤◌, ◌<◌}
-use mathlib.Core.Path.{◌≡◌, refl, sym, ◌∙◌, ap, ap₂}
+use mathlib.Core.Path.{◌≡◌, refl, sym, ◌∙◌, ap}
 use mathlib.Core.Bool.{Bool, true, false, ◌&&◌, ◌||◌}
 use mathlib.Core.List.{List, []}
 use native.Mathlib.Omega.{arith}

@@ -42,7 +42,12 @@ fn is_bad_place(
 }
 
 // Code 10: a slot past the clock's end, or the first bad place.
-fn area_answer(flows: usize, records: &[u8], firsts: [Slot; Flow::MOST], run: Run) -> Result<(), Refusal>
+fn area_answer(
+    flows: usize,
+    records: &[u8],
+    firsts: [Slot; Flow::MOST],
+    run: Run,
+) -> Result<(), Refusal>
     requires { record_bytes * flows ≤ length records.now }
     ensures { tested result ≡ code10 (facts_in 0 flows [] records.now []) (due_by (facts_in 0 flows [] records.now []) firsts run) (state_of run) }
 {
@@ -67,7 +72,12 @@ fn is_overrun(flow: Flow, first: Slot, slot: Slot, p: Progress) -> bool
 }
 
 // Code 11, at the first such flow.
-fn overrun_answer(flows: usize, records: &[u8], firsts: [Slot; Flow::MOST], run: Run) -> Result<(), Refusal>
+fn overrun_answer(
+    flows: usize,
+    records: &[u8],
+    firsts: [Slot; Flow::MOST],
+    run: Run,
+) -> Result<(), Refusal>
     requires { (record_bytes * flows ≤ length records.now) × ((i : ℕ) → i < flows → 0 < field records.now i 2) × (flows ≤ most_flows) }
     ensures { tested result ≡ code11 (facts_in 0 flows [] records.now []) (due_by (facts_in 0 flows [] records.now []) firsts run) (state_of run) }
 {
@@ -80,7 +90,12 @@ fn overrun_answer(flows: usize, records: &[u8], firsts: [Slot; Flow::MOST], run:
 }
 
 // Codes 10, 12 and 11 of a run.
-fn run_answer(flows: usize, records: &[u8], firsts: [Slot; Flow::MOST], run: Run) -> Result<(), Refusal>
+fn run_answer(
+    flows: usize,
+    records: &[u8],
+    firsts: [Slot; Flow::MOST],
+    run: Run,
+) -> Result<(), Refusal>
     requires { (record_bytes * flows ≤ length records.now) × ((i : ℕ) → i < flows → 0 < field records.now i 2) × (flows ≤ most_flows) }
     ensures { tested result ≡ run_answer (facts_in 0 flows [] records.now []) (due_by (facts_in 0 flows [] records.now []) firsts run) (state_of run) }
 {

@@ -1,14 +1,11 @@
 -- `area::area::read_run` reads each place in turn, and then the slot. Assumes nothing.
-use mathlib.Core.Path.{refl, ◌∙◌}
+use mathlib.Core.Path.{◌∙◌}
 use native.Mathlib.Omega.{arith}
 use borrow.Author.Count.{below_more}
 use lib.ListN.{length-set}
 use Rattle.trade.specs.Area.{state_in}
 use Rattle.slot.proofs.Places.{stored, unstored}
 use Rattle.area.proofs.area.read_run.Goals as goal
-
-pub loop-i-init : goal.loop-i-init
-loop-i-init c = (refl, λ k h. absurd (omega arith))
 
 pub loop-i-preserved : goal.loop-i-preserved
 unfolding state_in

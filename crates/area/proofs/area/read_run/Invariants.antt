@@ -1,5 +1,5 @@
 -- `area::area::read_run` reads each place in turn, and then the slot. Assumes nothing.
-use Prim.Native.Nat.{ℕ, ◌-◌, ◌≤◌, ◌<◌}
+use Prim.Native.Nat.{ℕ, ◌<◌}
 use mathlib.Core.Path.{◌≡◌}
 use lib.ListN.{length}
 use Rattle.trade.specs.Limits.{most_flows}

@@ -8,7 +8,7 @@ use Rattle.numbers.specs.Pasting.{pasted_at}
 use Rattle.slot.specs.States.{place_of, state_of}
 use Rattle.trade.specs.Bytes.{four_bytes}
 use Rattle.numbers.proofs.PastingLaws.{pasted_first}
-use Rattle.slot.proofs.Places.{store_none, store_length, store_next, area_written}
+use Rattle.slot.proofs.Places.{store_none, store_next, area_written}
 use Rattle.area.proofs.area.write_run.Goals as goal
 
 pub loop-i-init : goal.loop-i-init
@@ -16,21 +16,11 @@ loop-i-init c =
     let put = c.put_long in
     (omega (arith, put.auto.buffer, c.requires), store_none slot_bytes (place_of c.args.run.flows) put.new.buffer)
 
-pub bounds-area-i : goal.bounds-area-i
-bounds-area-i c =
-    let loop = c.loop-i in
-    omega (arith, store_length slot_bytes _ _ loop.i loop.area loop.invariant.1 (omega arith))
-
 pub loop-i-preserved : goal.loop-i-preserved
 unfolding place_of
 loop-i-preserved c =
     let loop = c.loop-i in
     (loop.invariant.0, store_next slot_bytes _ _ loop.i loop.area loop.invariant.1 (omega arith))
-
-pub shape_of-area : goal.shape_of-area
-shape_of-area c =
-    let loop = c.loop-i in
-    store_length slot_bytes _ _ loop.i loop.area loop.invariant.1 (omega arith) ∙ c.put_long.auto.buffer
 
 pub returns : goal.returns
 unfolding state_of

@@ -1,8 +1,7 @@
 -- `area::due::has_stray` where none is seen, no unused place passed is other than 0. Assumes nothing.
-use Prim.Native.Nat.{ℕ, ◌-◌, ◌≤◌, ◌<◌}
+use Prim.Native.Nat.{ℕ, ◌≤◌, ◌<◌}
 use mathlib.Core.Path.{◌≡◌}
 use mathlib.Core.Bool.{false}
-use Rattle.trade.specs.Limits.{most_flows}
 use Rattle.slot.specs.States.{place_of}
 use Rattle.area.proofs.due.has_stray.Given as goal
 

@@ -26,9 +26,6 @@ returns-then-slot-gt-END c =
     let a = c.args in
     sym (code10_late (facts_in 0 a.flows [] a.records.now []) (due_by (facts_in 0 a.flows [] a.records.now []) a.firsts a.run) (state_of a.run) c.if-slot-gt-END.true)
 
-pub loop-i-init : goal.loop-i-init
-loop-i-init c = (omega arith, λ k h. absurd (omega arith))
-
 pub returns-then-is_bad_place : goal.returns-then-is_bad_place
 unfolding state_of
 returns-then-is_bad_place c =

@@ -1,9 +1,9 @@
 -- `area::refusals::area_answer` no place passed is bad. Assumes nothing.
-use Prim.Native.Nat.{ℕ, ◌-◌, ◌≤◌, ◌<◌}
+use Prim.Native.Nat.{ℕ, ◌≤◌, ◌<◌}
 use mathlib.Core.Path.{◌≡◌}
 use mathlib.Core.Bool.{false, Bool}
 use mathlib.Core.List.{List, []}
-use Rattle.trade.specs.Limits.{most_flows, end_of_clock}
+use Rattle.trade.specs.Limits.{end_of_clock}
 use Rattle.trade.specs.Facts.{facts_in}
 use Rattle.trade.specs.SlotCodes.{bad_place}
 use Rattle.slot.specs.States.{state_of}

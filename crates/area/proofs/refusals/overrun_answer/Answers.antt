@@ -27,9 +27,6 @@ asked c =
     ∙ ap (λ (w : Flow). overrun_at w (get_or a.firsts i (record { 0 = 0 })) a.run.slot (get_or a.run.flows i (idle_of 0))) c.record_at.ensures
     ∙ overrun_shown a.flows a.records.now a.firsts a.run i
 
-pub loop-i-init : goal.loop-i-init
-loop-i-init c = λ k h. absurd (omega arith)
-
 pub is_overrun-requires : goal.is_overrun-requires
 unfolding flow_in
 is_overrun-requires c = rw c.record_at.ensures (c.requires.1 c.loop-i.i c.loop-i-test.true)

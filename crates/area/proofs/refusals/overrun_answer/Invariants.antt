@@ -1,5 +1,5 @@
 -- `area::refusals::overrun_answer` no flow passed is overrun. Assumes nothing.
-use Prim.Native.Nat.{ℕ, ◌-◌, ◌≤◌, ◌<◌}
+use Prim.Native.Nat.{ℕ, ◌<◌}
 use mathlib.Core.Path.{◌≡◌}
 use mathlib.Core.Bool.{false, Bool}
 use mathlib.Core.List.{List, []}

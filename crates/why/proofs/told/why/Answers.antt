@@ -1,5 +1,8 @@
 -- `why::told::why` tests the rules of the book and of the run area in their order, and leaves the slot its own. Assumes nothing.
+use Prim.Native.Nat.{◌≤◌}
 use mathlib.Core.Path.{◌≡◌, sym, ◌∙◌, ap}
+use lib.ListN.{length}
+use Rattle.trade.specs.Limits.{area_bytes}
 use Rattle.trade.specs.Facts.{facts_of, said}
 use Rattle.trade.specs.declared.answer.Answer.{Answer}
 use Rattle.book.specs.Frame.{opened_of}
@@ -47,20 +50,21 @@ told_in-told-requires c = (rw (c.rows_of.ensures, c.records_of.ensures, c.steps_
 asked :
     (c : After-told_in-told)
     → OpenBook c.args.book.now c.open_book-opened.result
+    → area_bytes ≤ length c.args.area.now
     → told_of c.told_in-told.result ≡ ask_of (record { book = c.args.book.now; area = c.args.area.now; place = c.args.place })
 unfolding said facts_of
-asked c book =
+asked c book room =
     let a = c.args in
     rw (book.flows, c.rows_of.ensures, c.records_of.ensures, c.steps_of.ensures) at c.told_in-told.ensures
-    ∙ sections_tell a.book.now a.area.now a.place book.done c.if-area-lt-AREA_BYTES.false
-    ∙ sym (slot_tells a.book.now a.area.now a.place book.done c.if-area-lt-AREA_BYTES.false)
+    ∙ sections_tell a.book.now a.area.now a.place book.done room
+    ∙ sym (slot_tells a.book.now a.area.now a.place book.done room)
 
 pub returns-in-Ok : goal.returns-in-Ok
 returns-in-Ok c =
     let at = goal.at.returns-in-Ok c in
-    sym (ap told_of c.in-Ok.is) ∙ asked at.After-told_in-told (opened at.Else-answer-ne0)
+    sym (ap told_of c.in-Ok.is) ∙ asked at.After-told_in-told (opened at.Else-answer-ne0) c.if-area-lt-AREA_BYTES.false
 
 pub returns-in-Err : goal.returns-in-Err
 returns-in-Err c =
     let at = goal.at.returns-in-Err c in
-    ap Refused c.answer.ensures ∙ sym (ap told_of c.in-Err.is) ∙ asked at.After-told_in-told (opened at.Else-answer-ne0)
+    ap Refused c.answer.ensures ∙ sym (ap told_of c.in-Err.is) ∙ asked at.After-told_in-told (opened at.Else-answer-ne0) c.if-area-lt-AREA_BYTES.false

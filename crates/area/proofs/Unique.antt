@@ -5,23 +5,19 @@ use mathlib.Core.Path.{◌≡◌, sym, ◌∙◌, ap}
 use mathlib.Core.Logic.{⊎_elim}
 use native.Mathlib.Omega.{arith}
 use lib.ListN.{get_or-eq_default}
-use Rattle.std.specs.Prelude.{Result, Ok, Err}
 use Rattle.trade.specs.Limits.{most_flows}
 use Rattle.trade.specs.Facts.{Facts}
 use Rattle.trade.specs.Run.{idle_of}
-use Rattle.trade.specs.declared.answer.Answer.{Answer}
 use Rattle.trade.specs.declared.clock.Slot.{Slot}
-use Rattle.trade.specs.declared.refusal.Refusal.{Refusal}
 use Rattle.trade.specs.declared.state.Progress.{Progress}
 use Rattle.trade.specs.declared.state.Run.{Run}
 use Rattle.trade.proofs.First.{lt_or_ge}
-use Rattle.trade.proofs.Refusals.{refuses, one_refusal}
+use Rattle.trade.proofs.Refusals.{one_test}
 use Rattle.trade.proofs.Unique.{OneResult, one_result}
 use mathlib.Core.List.{List}
 use Rattle.slot.specs.States.{place_of}
 use Rattle.slot.proofs.Unique.{same_slots, same_run}
-use Rattle.area.specs.Dues.{FirstReleases, AfterReleases, IsDue}
-use Rattle.area.specs.declared.due.Due.{Due}
+use Rattle.area.specs.Dues.{FirstReleases, AfterReleases}
 use Rattle.area.proofs.area.read_run.Kinds as read_run_kinds
 use Rattle.area.proofs.area.read_run.Reads as read_run
 use Rattle.area.proofs.area.write_run.Reads as write_run
@@ -55,15 +51,9 @@ same_firsts f r r' p q =
     ⊎_elim (λ (h : i < f.flows). one_result (p.phases i h) (q.phases i h)) (λ (h : f.flows ≤ i). one_result (p.others i h) (q.others i h))
     (lt_or_ge i f.flows))
 
--- so what is due is one, or the refusal is
-same_due : (f : Facts) (run : Run) (r r' : Result Due Refusal) → IsDue f run r → IsDue f run r' → r ≡ r'
-same_due f run (Ok d) (Ok d') p q =
-    let after = same_after f run d.run d'.run p.after q.after in
-    let firsts = same_firsts f d.firsts d'.firsts p.firsts q.firsts in
-    λ t. Ok (record { run = after t; firsts = firsts t })
-same_due f run (Ok d) (Err e) p q = absurd (refuses e (ap (λ (a : Answer). a.code) (one_result q.answer p.answer)))
-same_due f run (Err e) (Ok d) p q = absurd (refuses e (ap (λ (a : Answer). a.code) (one_result p.answer q.answer)))
-same_due f run (Err e) (Err e') p q = ap Err (one_refusal (one_result p.answer q.answer))
-
 pub due_in_unique : OneResult 1 due_in_kinds.ps due_in_kinds.r due_in.Post
-due_in_unique κs a r r' s s' p q = same_due _ _ r r' p q
+due_in_unique κs a r r' s s' p q =
+    let test = one_test r.test r'.test (one_result p.answer q.answer) in
+    let run = same_after _ _ r.run r'.run p.after q.after in
+    let firsts = same_firsts _ r.firsts r'.firsts p.firsts q.firsts in
+    λ t. record { test = test t; run = run t; firsts = firsts t }

@@ -11,9 +11,11 @@ use sections::records::record_at;
 use slot::release::is_released;
 use trade::{Clock, Flow, Progress, Refusal, Run, Slot, Step};
 
-// The run after the releases of its slot, and the first release of each flow.
+// What codes 10, 12 and 11 say of a run, the run after the releases of its slot, and the first release of each flow. The last two stand beside
+// the Result and not in its Ok: taken out of there they cost ADVANCE 115 instructions more, and 368 bytes more of stack.
 #[derive(Clone, Copy)]
 pub struct Due {
+    pub test: Result<(), Refusal>,
     pub run: Run,
     pub firsts: [Slot; Flow::MOST],
 }
@@ -33,7 +35,7 @@ fn has_stray(flows: usize, run: Run) -> bool
 // One look at every flow, whose first release is its phase. A release sets the steps done to 0, and must not find any left; each flow's
 // period divides once. Which rule refuses a run in doubt, and where, is for the tests of the rules in their order, which a run in good
 // order never reaches.
-pub fn due_in(flows: usize, records: &[u8], run: Run) -> Result<Due, Refusal>
+pub fn due_in(flows: usize, records: &[u8], run: Run) -> Due
     requires { (record_bytes * flows ≤ length records.now) × ((i : ℕ) → i < flows → 0 < field records.now i 2) × (flows ≤ most_flows) × (length run.flows ≡ most_flows) }
     ensures { IsDue (facts_in 0 flows [] records.now []) run result }
 {
@@ -52,9 +54,9 @@ pub fn due_in(flows: usize, records: &[u8], run: Run) -> Result<Due, Refusal>
             released.flows[i] = Progress { done: Step(0) };
         }
     }
-    answer_in_doubt(doubt, flows, records, firsts, run)?;
-    Ok(Due {
+    Due {
+        test: answer_in_doubt(doubt, flows, records, firsts, run),
         run: released,
         firsts,
-    })
+    }
 }

@@ -27,7 +27,8 @@ fn run_slot(
     ensures { RunsSlot (facts_in 0 flows rows.now records.now steps.now) area.old grants.old (answered (λ n. n) result)
         area.new grants.new }
 {
-    let due = due_in(flows, records, read_run(area))?;
+    let due = due_in(flows, records, read_run(area));
+    due.test?;
     let choice = chosen(flows, rows, records, steps, due.run);
     let out = grant_all(records, due.firsts, due.run, choice, grants);
     write_run(area, out.run);

@@ -92,7 +92,8 @@ fn told_in(
     requires { Formed flows rows.now records.now steps.now × (area_bytes ≤ length area.now) }
     ensures { ToldIn (facts_in 0 flows rows.now records.now steps.now) area.now place result }
 {
-    let due = due_in(flows, records, read_run(area))?;
+    let due = due_in(flows, records, read_run(area));
+    due.test?;
     if flows <= place {
         return Err(Refusal::NoPlace);
     }

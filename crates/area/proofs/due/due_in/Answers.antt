@@ -3,7 +3,6 @@ use mathlib.Core.Path.{◌≡◌, refl, sym, ◌∙◌}
 use mathlib.Core.Bool.{◌||◌}
 use native.Mathlib.Omega.{arith}
 use lib.Dec.{ltb}
-use Rattle.std.proofs.lemmas.Result.{err_from_is_err_and}
 use Rattle.trade.specs.Limits.{last_slot}
 use Rattle.trade.specs.Facts.{flow_in}
 use Rattle.area.proofs.DueLaws.{Seen, seen_none, seen_stays, seen_released, seen_clear, seen_after, seen_firsts, seen_answer}
@@ -45,27 +44,13 @@ answer_in_doubt-requires-clause-run_value c =
     seen_answer a.flows a.records.now a.run _ loop.released.flows loop.firsts loop.doubt all
     ∙ seen_clear a.flows a.records.now a.run c.has_stray.result loop.released.flows loop.firsts loop.doubt all c.has_stray.ensures e
 
-pub returns-in_err-answer_in_doubt : goal.returns-in_err-answer_in_doubt
-returns-in_err-answer_in_doubt c =
-    let a = c.args in
-    let loop = c.loop-i in
-    let (e, is, same) = err_from_is_err_and c.from_residual.result c.from_residual.ensures.1 in
-    rw (is, same)
-    (record {
-      answer =
-          c.in_err-answer_in_doubt.ensures
-          ∙ seen_answer a.flows a.records.now a.run _ loop.released.flows loop.firsts loop.doubt (seen (goal.at.returns-in_err-answer_in_doubt c).After-loop-i);
-      after = tt;
-      firsts = tt;
-    })
-
 pub returns : goal.returns
 returns c =
     let a = c.args in
     let loop = c.loop-i in
     let all = seen (goal.at.returns c).After-loop-i in
     record {
-      answer = c.in_ok-answer_in_doubt.ensures ∙ seen_answer a.flows a.records.now a.run _ loop.released.flows loop.firsts loop.doubt all;
+      answer = c.answer_in_doubt.ensures ∙ seen_answer a.flows a.records.now a.run _ loop.released.flows loop.firsts loop.doubt all;
       after = seen_after a.flows a.records.now a.run _ loop.released.flows loop.firsts loop.doubt all loop.released.slot loop.invariant.0;
       firsts = seen_firsts a.flows a.records.now a.run _ loop.released.flows loop.firsts loop.doubt all;
     }

@@ -4,6 +4,7 @@ use mathlib.Core.Path.{◌≡◌, sym, ◌∙◌, ap}
 use native.Mathlib.Omega.{arith}
 use lib.ListN.{length}
 use Rattle.trade.specs.Facts.{facts_in}
+use Rattle.trade.specs.Refusals.{tested}
 use Rattle.trade.specs.declared.answer.Answer.{Answer}
 use Rattle.trade.proofs.Refusals.{number_handed_on}
 use Rattle.run.specs.Calls.{slot_answer}
@@ -19,11 +20,11 @@ passed c =
     let a = c.args in
     sym
     (ap (λ (r : Answer). r.code)
-    (c.in_ok-due.ensures.answer
+    (ap tested (sym (c.in_ok-due.was)) ∙ c.due_in-due.ensures.answer
     ∙ read_answer a.flows a.rows.now a.records.now a.steps.now a.area.now c.requires.0.most c.read_run.result c.read_run.ensures))
 
-pub due_in-requires : goal.due_in-requires
-due_in-requires c =
+pub due_in-due-requires : goal.due_in-due-requires
+due_in-due-requires c =
     let formed = c.requires.0 in
     (formed.recorded, λ i h. (formed.fields i h).period.0, formed.most, c.read_run.ensures.size)
 
@@ -32,14 +33,15 @@ returns-in_err-due c =
     let a = c.args in
     let refusal = c.in_err-due.field-0.0 in
     rw (number_handed_on (λ n. n) c.from_residual.result refusal c.from_residual.ensures.1)
-    (stopped a.flows a.rows.now a.records.now a.steps.now a.area.now c.requires.0.most c.read_run.result c.read_run.ensures a.grants.now refusal c.in_err-due.ensures.answer)
+    (stopped a.flows a.rows.now a.records.now a.steps.now a.area.now c.requires.0.most c.read_run.result c.read_run.ensures a.grants.now refusal
+    (ap tested (sym (c.in_err-due.was)) ∙ c.due_in-due.ensures.answer))
 
 pub grant_all-out-requires : goal.grant_all-out-requires
 grant_all-out-requires c =
     let a = c.args in
-    let due = c.in_ok-due in
+    let due = c.due_in-due in
     let chosen = c.chosen-choice in
-    grants_asked a.flows a.rows.now a.records.now a.steps.now a.area.now c.requires.0.most c.read_run.result c.read_run.ensures due.due.run due.ensures.after
+    grants_asked a.flows a.rows.now a.records.now a.steps.now a.area.now c.requires.0.most c.read_run.result c.read_run.ensures due.result.run due.ensures.after
     chosen.result chosen.ensures c.requires.0 (passed (goal.at.grant_all-out-requires c).In_ok-due) (omega arith) (length a.grants.now) c.requires.2
 
 pub write_run-requires : goal.write_run-requires
@@ -48,9 +50,9 @@ write_run-requires c = c.requires.1
 pub returns : goal.returns
 returns c =
     let a = c.args in
-    let due = c.in_ok-due in
+    let due = c.due_in-due in
     let chosen = c.chosen-choice in
     let out = c.grant_all-out in
     rw c.write_run.ensures
-    (ran a.flows a.rows.now a.records.now a.steps.now a.area.now c.requires.0.most c.read_run.result c.read_run.ensures due.due.run due.ensures.after
-    chosen.result chosen.ensures (passed (goal.at.returns c).In_ok-due) due.due.firsts due.ensures.firsts a.grants.now out.result _ out.ensures)
+    (ran a.flows a.rows.now a.records.now a.steps.now a.area.now c.requires.0.most c.read_run.result c.read_run.ensures due.result.run due.ensures.after
+    chosen.result chosen.ensures (passed (goal.at.returns c).In_ok-due) due.result.firsts due.ensures.firsts a.grants.now out.result _ out.ensures)

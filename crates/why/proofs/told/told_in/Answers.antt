@@ -2,7 +2,7 @@
 use mathlib.Core.Path.{◌≡◌, sym, ◌∙◌, ap}
 use Rattle.trade.specs.Facts.{Facts, facts_in, facts_of}
 use Rattle.std.proofs.lemmas.Result.{err_from_is_err_and}
-use Rattle.trade.specs.Refusals.{answer_of}
+use Rattle.trade.specs.Refusals.{answer_of, tested}
 use Rattle.trade.specs.declared.answer.Answer.{Answer}
 use Rattle.trade.proofs.Refusals.{refuses}
 use Rattle.slot.specs.States.{slot_in}
@@ -16,8 +16,8 @@ use Rattle.why.proofs.told.told_in.Goals.{In_ok-due, Start}
 abbrev facts : Start → Facts
 facts s = facts_in 0 s.args.flows s.args.rows.now s.args.records.now s.args.steps.now
 
-pub due_in-requires : goal.due_in-requires
-due_in-requires c =
+pub due_in-due-requires : goal.due_in-due-requires
+due_in-due-requires c =
     let formed = c.requires.0 in
     (formed.recorded, λ i h. (formed.fields i h).period.0, formed.most, c.read_run.ensures.size)
 
@@ -29,7 +29,7 @@ returns-in_err-due c =
     let (e, is, same) = err_from_is_err_and c.from_residual.result c.from_residual.ensures.1 in
     rw (is, same)
     (slot_refused (facts (goal.at.returns-in_err-due c).Start) a.area.now a.place (answer_of refusal)
-    (c.in_err-due.ensures.answer
+    (ap tested (sym (c.in_err-due.was)) ∙ c.due_in-due.ensures.answer
     ∙ read_answer a.flows a.rows.now a.records.now a.steps.now a.area.now c.requires.0.most c.read_run.result c.read_run.ensures) (refuses refusal))
 
 -- and passes
@@ -38,7 +38,7 @@ passed c =
     let a = c.args in
     sym
     (ap (λ (r : Answer). r.code)
-    (c.in_ok-due.ensures.answer
+    (ap tested (sym (c.in_ok-due.was)) ∙ c.due_in-due.ensures.answer
     ∙ read_answer a.flows a.rows.now a.records.now a.steps.now a.area.now c.requires.0.most c.read_run.result c.read_run.ensures))
 
 pub returns-then-flows-place : goal.returns-then-flows-place
@@ -50,8 +50,8 @@ pub returns : goal.returns
 unfolding facts_of slot_in
 returns c =
     let a = c.args in
-    let due = c.in_ok-due in
+    let due = c.due_in-due in
     c.told.ensures
-    ∙ told_is a.flows a.rows.now a.records.now a.steps.now a.area.now c.requires.0.most c.read_run.result c.read_run.ensures due.due.run due.ensures.after
-    due.due.firsts due.ensures.firsts a.place c.if-flows-place.false
+    ∙ told_is a.flows a.rows.now a.records.now a.steps.now a.area.now c.requires.0.most c.read_run.result c.read_run.ensures due.result.run due.ensures.after
+    due.result.firsts due.ensures.firsts a.place c.if-flows-place.false
     ∙ place_told (facts (goal.at.returns c).Start) a.area.now a.place (passed (goal.at.returns c).In_ok-due) c.if-flows-place.false

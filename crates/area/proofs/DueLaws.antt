@@ -1,7 +1,7 @@
 -- One look at every flow of a slot, one flow at a time: what is seen of the flows passed is their releases, and whether a rule may refuse
 -- the run. Leans on the slot's Places and on RefusalsLaws. Assumes nothing.
 use Prim.Native.Nat.{ℕ, ◌+◌, ◌-◌, ◌%◌, ◌≤◌, ◌<◌}
-use mathlib.Core.Path.{◌≡◌, refl, sym, ◌∙◌, ap, ap₂}
+use mathlib.Core.Path.{◌≡◌, refl, sym, ◌∙◌, ap}
 use mathlib.Core.Bool.{Bool, true, false, ◌&&◌, ◌||◌}
 use mathlib.Core.List.{List, []}
 use native.Mathlib.Omega.{arith}
@@ -76,7 +76,7 @@ module _ (flows : ℕ) (records : List ℕ) (run : Run) where
       first = record { 0 = flow.phase }
 
       abbrev p : Progress
-      p = get_or places i (idle_of 0)
+      p = get_or run.flows i (idle_of 0)
 
       abbrev released_now : Bool
       released_now = released_at first.0 flow.period run.slot.0
@@ -90,7 +90,7 @@ module _ (flows : ℕ) (records : List ℕ) (run : Run) where
 
       good_now : bad ≡ false → bad_place facts due state i ≡ false
       unfolding bad_place bad_at state_of place_of facts_of flow_in
-      good_now e = rw (lt-ltb i flows taken, ← so.ahead i (omega arith)) (rw own at e)
+      good_now e = rw (lt-ltb i flows taken) (rw own at e)
 
       -- its first release is kept
       firsts_next : (k : ℕ) → k < i + 1 → slot_in (set firsts i first) k ≡ field records k 1
@@ -144,7 +144,7 @@ module _ (flows : ℕ) (records : List ℕ) (run : Run) where
                 let (fine, finished) = or_false (doubt || bad) (ltb p.done.0 flow.len) e in
                 let (none, good) = or_false doubt bad fine in
                 let (early, all) = so.clear none in
-                (early, below_more _ _ all (good_now good, rw (due_now, d) (ap₂ ltb (sym (so.ahead i (omega arith))) (ap (λ (w : Flow). w.len) (sym own)) ∙ finished)));
+                (early, below_more _ _ all (good_now good, rw (due_now, d) (ap (λ (w : Flow). ltb p.done.0 w.len) (sym own) ∙ finished)));
           }
 
   -- once all flows are seen, no doubt is left where no rule refuses the run
@@ -162,9 +162,9 @@ module _ (flows : ℕ) (records : List ℕ) (run : Run) where
 
   -- and what is due is known
   module _ (before : Bool) (places : List Progress) (firsts : List Slot) (doubt : Bool) (so : Seen before flows places firsts doubt) where
-    pub seen_after : AfterReleases facts run (record { slot = run.slot; flows = places })
+    pub seen_after : (slot : Slot) → slot ≡ run.slot → AfterReleases facts run (record { slot = slot; flows = places })
     unfolding facts_of state_of
-    seen_after = record { slot = refl; size = so.size; places = so.passed; others = so.ahead }
+    seen_after slot stays = record { slot = ap (λ (v : Slot). v.0) stays; size = so.size; places = so.passed; others = so.ahead }
 
     pub seen_firsts : FirstReleases facts firsts
     unfolding facts_of

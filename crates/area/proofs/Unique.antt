@@ -12,6 +12,7 @@ use Rattle.trade.specs.declared.clock.Slot.{Slot}
 use Rattle.trade.specs.declared.state.Progress.{Progress}
 use Rattle.trade.specs.declared.state.Run.{Run}
 use Rattle.trade.proofs.First.{lt_or_ge}
+use Rattle.trade.proofs.Refusals.{one_test}
 use Rattle.trade.proofs.Unique.{OneResult, one_result}
 use mathlib.Core.List.{List}
 use Rattle.slot.specs.States.{place_of}
@@ -52,6 +53,7 @@ same_firsts f r r' p q =
 
 pub due_in_unique : OneResult 1 due_in_kinds.ps due_in_kinds.r due_in.Post
 due_in_unique κs a r r' s s' p q =
+    let test = one_test r.test r'.test (one_result p.answer q.answer) in
     let run = same_after _ _ r.run r'.run p.after q.after in
     let firsts = same_firsts _ r.firsts r'.firsts p.firsts q.firsts in
-    λ t. record { answer = one_result p.answer q.answer t; run = run t; firsts = firsts t }
+    λ t. record { test = test t; run = run t; firsts = firsts t }

@@ -3,6 +3,7 @@ use Rattle.std.specs.Prelude.{ℕ, ◌≤◌, ◌<◌, ◌≡◌, List, length}
 use Rattle.trade.specs.Limits.{most_flows}
 use Rattle.trade.specs.Facts.{Facts}
 use Rattle.trade.specs.Slot.{Releases, periodic, releases_of, done_now}
+use Rattle.trade.specs.Refusals.{tested}
 use Rattle.trade.specs.declared.clock.Slot.{Slot}
 use Rattle.trade.specs.declared.state.Run.{Run}
 use Rattle.slot.specs.States.{place_of, state_of, slot_in}
@@ -26,8 +27,8 @@ pub record AfterReleases (f : Facts) (run r : Run) : Type 0 where
   pub places : (i : ℕ) → i < f.flows → place_of r.flows i ≡ done_now (releases_of f (state_of run)) (state_of run) i
   pub others : (i : ℕ) → f.flows ≤ i → place_of r.flows i ≡ place_of run.flows i
 
--- what `due_in` owes: the answer of codes 10, 12 and 11, the run after the releases, and the first releases
+-- what `due_in` owes: what codes 10, 12 and 11 say, the run after the releases, and the first releases
 pub record IsDue (f : Facts) (run : Run) (r : Due) : Type 0 where
-  pub answer : r.answer ≡ run_answer f (releases_of f (state_of run)) (state_of run)
+  pub answer : tested r.test ≡ run_answer f (releases_of f (state_of run)) (state_of run)
   pub after : AfterReleases f run r.run
   pub firsts : FirstReleases f r.firsts

@@ -15,12 +15,8 @@ pub fn read_run(area: &[u8]) -> Run
     ensures { HeldIn area.now result }
 {
     let mut flows = [Progress { done: Step(0) }; Flow::MOST];
-    let mut i = 0;
-    while i < Flow::MOST {
-        flows[i] = Progress {
-            done: Step(area[Run::SLOT_BYTES + i]),
-        };
-        i += 1;
+    for (i, flow) in flows.iter_mut().enumerate() {
+        flow.done = Step(area[Run::SLOT_BYTES + i]);
     }
     Run {
         slot: Slot(long_at(area, 0)),
@@ -34,11 +30,7 @@ pub fn write_run(area: &mut [u8], run: Run)
     ensures { area.new ≡ over (area_of most_flows (state_of run)) area.old }
 {
     put_long(area, 0, run.slot.0);
-    let flows = run.flows;
-    let mut i = 0;
-    while i < Flow::MOST {
-        let p = flows[i];
-        area[Run::SLOT_BYTES + i] = p.done.0;
-        i += 1;
+    for (i, flow) in run.flows.iter().enumerate() {
+        area[Run::SLOT_BYTES + i] = flow.done.0;
     }
 }

@@ -9,12 +9,13 @@ ghost use Rattle.area.specs.Dues.{IsDue};
 use crate::refusals::{answer_in_doubt, is_bad};
 use sections::records::record_at;
 use slot::release::is_released;
-use trade::{Answer, Clock, Flow, Progress, Run, Slot, Step};
+use trade::{Clock, Flow, Progress, Refusal, Run, Slot, Step};
 
-// What codes 10, 12 and 11 answer to a run, the run after the releases of its slot, and the first release of each flow.
+// What codes 10, 12 and 11 say of a run, the run after the releases of its slot, and the first release of each flow. The last two stand beside
+// the Result and not in its Ok: taken out of there they cost ADVANCE 115 instructions more, and 368 bytes more of stack.
 #[derive(Clone, Copy)]
 pub struct Due {
-    pub answer: Answer,
+    pub test: Result<(), Refusal>,
     pub run: Run,
     pub firsts: [Slot; Flow::MOST],
 }
@@ -24,13 +25,9 @@ fn has_stray(flows: usize, run: Run) -> bool
     requires { length run.flows ≡ most_flows }
     ensures { result ≡ false → (i : ℕ) → flows ≤ i → i < most_flows → place_of run.flows i ≡ 0 }
 {
-    let places = run.flows;
     let mut stray = false;
-    let mut i = flows;
-    while i < Flow::MOST {
-        let p = places[i];
-        stray = stray | (p.done.0 != 0);
-        i += 1;
+    for i in flows..Flow::MOST {
+        stray |= run.flows[i].done.0 != 0;
     }
     stray
 }
@@ -43,28 +40,23 @@ pub fn due_in(flows: usize, records: &[u8], run: Run) -> Due
     ensures { IsDue (facts_in 0 flows [] records.now []) run result }
 {
     let slot = run.slot;
-    let mut places = run.flows;
+    let mut released = run;
     let mut firsts = [Slot(0); Flow::MOST];
     let mut doubt = (Clock::LAST < slot.0) | has_stray(flows, run);
-    let mut i = 0;
-    while i < flows {
+    for i in 0..flows {
         let flow = record_at(records, i);
         let first = Slot(flow.phase as u32);
-        let p = places[i];
+        let p = run.flows[i];
         firsts[i] = first;
-        doubt = doubt | is_bad(flow, first, slot, p);
+        doubt |= is_bad(flow, first, slot, p);
         if is_released(first, flow.period, slot) {
-            doubt = doubt | ((p.done.0 as u16) < flow.len);
-            places[i] = Progress { done: Step(0) };
+            doubt |= (p.done.0 as u16) < flow.len;
+            released.flows[i] = Progress { done: Step(0) };
         }
-        i += 1;
     }
     Due {
-        answer: answer_in_doubt(doubt, flows, records, firsts, run),
-        run: Run {
-            slot,
-            flows: places,
-        },
+        test: answer_in_doubt(doubt, flows, records, firsts, run),
+        run: released,
         firsts,
     }
 }

@@ -4,6 +4,7 @@ ghost use Rattle.trade.specs.Limits.{most_flows, record_bytes};
 ghost use Rattle.trade.specs.Layout.{field};
 ghost use Rattle.trade.specs.Facts.{facts_in};
 ghost use Rattle.trade.specs.Answers.{done};
+ghost use Rattle.trade.specs.Refusals.{tested};
 ghost use Rattle.trade.specs.SlotCodes.{code10, code11};
 ghost use Rattle.slot.specs.States.{state_of};
 ghost use Rattle.area.specs.Refusals.{bad_at, bad_place_at, overrun_at, run_answer};
@@ -11,14 +12,14 @@ ghost use Rattle.area.specs.Dues.{due_by};
 
 use sections::records::record_at;
 use slot::release::is_released;
-use trade::{Answer, Clock, Flow, Progress, Run, Slot};
+use trade::{Clock, Flow, Progress, Refusal, Run, Slot};
 
 // Whether the steps done by a flow are more than its L, or not its L though it was not released before the slot.
 pub(crate) fn is_bad(flow: Flow, first: Slot, slot: Slot, p: Progress) -> bool
     ensures { result ≡ bad_at flow first slot p }
 {
     let done = p.done.0 as u16;
-    let begun = first.0 < slot.0;
+    let begun = first < slot;
     (flow.len < done) | (!begun & (done != flow.len))
 }
 
@@ -41,23 +42,25 @@ fn is_bad_place(
 }
 
 // Code 10: a slot past the clock's end, or the first bad place.
-fn area_answer(flows: usize, records: &[u8], firsts: [Slot; Flow::MOST], run: Run) -> Answer
+fn area_answer(
+    flows: usize,
+    records: &[u8],
+    firsts: [Slot; Flow::MOST],
+    run: Run,
+) -> Result<(), Refusal>
     requires { record_bytes * flows ≤ length records.now }
-    ensures { result ≡ code10 (facts_in 0 flows [] records.now []) (due_by (facts_in 0 flows [] records.now []) firsts run) (state_of run) }
+    ensures { tested result ≡ code10 (facts_in 0 flows [] records.now []) (due_by (facts_in 0 flows [] records.now []) firsts run) (state_of run) }
 {
     let slot = run.slot;
     if Clock::END < slot.0 {
-        return Answer::refused(10, 0);
+        return Err(Refusal::BadArea(0));
     }
-    let places = run.flows;
-    let mut i = 0;
-    while i < Flow::MOST {
-        if is_bad_place(flows, records, firsts[i], slot, i, places[i]) {
-            return Answer::refused(10, i as u64);
+    for (i, p) in run.flows.iter().enumerate() {
+        if is_bad_place(flows, records, firsts[i], slot, i, *p) {
+            return Err(Refusal::BadArea(i));
         }
-        i += 1;
     }
-    Answer::done(0)
+    Ok(())
 }
 
 // Whether a release falls due while the flow's last instance is unfinished.
@@ -69,33 +72,36 @@ fn is_overrun(flow: Flow, first: Slot, slot: Slot, p: Progress) -> bool
 }
 
 // Code 11, at the first such flow.
-fn overrun_answer(flows: usize, records: &[u8], firsts: [Slot; Flow::MOST], run: Run) -> Answer
+fn overrun_answer(
+    flows: usize,
+    records: &[u8],
+    firsts: [Slot; Flow::MOST],
+    run: Run,
+) -> Result<(), Refusal>
     requires { (record_bytes * flows ≤ length records.now) × ((i : ℕ) → i < flows → 0 < field records.now i 2) × (flows ≤ most_flows) }
-    ensures { result ≡ code11 (facts_in 0 flows [] records.now []) (due_by (facts_in 0 flows [] records.now []) firsts run) (state_of run) }
+    ensures { tested result ≡ code11 (facts_in 0 flows [] records.now []) (due_by (facts_in 0 flows [] records.now []) firsts run) (state_of run) }
 {
-    let slot = run.slot;
-    let places = run.flows;
-    let mut i = 0;
-    while i < flows {
-        if is_overrun(record_at(records, i), firsts[i], slot, places[i]) {
-            return Answer::refused(11, i as u64);
+    for i in 0..flows {
+        if is_overrun(record_at(records, i), firsts[i], run.slot, run.flows[i]) {
+            return Err(Refusal::Overrun(i));
         }
-        i += 1;
     }
-    Answer::done(0)
+    Ok(())
 }
 
 // Codes 10, 12 and 11 of a run.
-fn run_answer(flows: usize, records: &[u8], firsts: [Slot; Flow::MOST], run: Run) -> Answer
+fn run_answer(
+    flows: usize,
+    records: &[u8],
+    firsts: [Slot; Flow::MOST],
+    run: Run,
+) -> Result<(), Refusal>
     requires { (record_bytes * flows ≤ length records.now) × ((i : ℕ) → i < flows → 0 < field records.now i 2) × (flows ≤ most_flows) }
-    ensures { result ≡ run_answer (facts_in 0 flows [] records.now []) (due_by (facts_in 0 flows [] records.now []) firsts run) (state_of run) }
+    ensures { tested result ≡ run_answer (facts_in 0 flows [] records.now []) (due_by (facts_in 0 flows [] records.now []) firsts run) (state_of run) }
 {
-    let malformed = area_answer(flows, records, firsts, run);
-    if malformed.code != 0 {
-        return malformed;
-    }
+    area_answer(flows, records, firsts, run)?;
     if run.slot.0 == Clock::END {
-        return Answer::refused(12, 0);
+        return Err(Refusal::Ended);
     }
     overrun_answer(flows, records, firsts, run)
 }
@@ -107,13 +113,14 @@ pub(crate) fn answer_in_doubt(
     records: &[u8],
     firsts: [Slot; Flow::MOST],
     run: Run,
-) -> Answer
+) -> Result<(), Refusal>
     requires flows_in_bounds { (record_bytes * flows ≤ length records.now) × ((i : ℕ) → i < flows → 0 < field records.now i 2) × (flows ≤ most_flows) }
     requires run_value { doubt ≡ false → run_answer (facts_in 0 flows [] records.now []) (due_by (facts_in 0 flows [] records.now []) firsts run) (state_of run) ≡ done 0 }
-    ensures { result ≡ run_answer (facts_in 0 flows [] records.now []) (due_by (facts_in 0 flows [] records.now []) firsts run) (state_of run) }
+    ensures { tested result ≡ run_answer (facts_in 0 flows [] records.now []) (due_by (facts_in 0 flows [] records.now []) firsts run) (state_of run) }
 {
     if doubt {
-        return run_answer(flows, records, firsts, run);
+        run_answer(flows, records, firsts, run)
+    } else {
+        Ok(())
     }
-    Answer::done(0)
 }

@@ -19,12 +19,15 @@ use Rattle.trade.specs.Interference.{one}
 use Rattle.trade.specs.Slot.{State, Releases, released, instance_at, releases_of, done_now, unfinished, next_step, greedy, granted_by, granted, among, next_state_by, next_state, grant_of, grants_of}
 use Rattle.trade.specs.Area.{state_in, area_of}
 use Rattle.trade.specs.Answers.{done, refused, is_done}
+use Rattle.trade.specs.Refusals.{answer_of}
 use Rattle.trade.specs.SlotCodes.{bad_place, overrun, code10, code11, code12}
 use Rattle.trade.specs.declared.answer.Answer.{Answer}
 use Rattle.trade.specs.declared.clock.Slot.{Slot}
+use Rattle.trade.specs.declared.refusal.Refusal.{Refusal}
 use Rattle.trade.specs.declared.state.Run.{Run}
 use Rattle.trade.proofs.First.{bool_cases, lt_or_ge}
 use Rattle.trade.proofs.Answers.{given_first_same}
+use Rattle.trade.proofs.Refusals.{refuses}
 use Rattle.trade.proofs.Area.{place_byte}
 use Rattle.trade.proofs.SlotLaws.{going_below}
 use Rattle.trade.proofs.Alike.{alike_self}
@@ -95,6 +98,19 @@ module _
     pub read_answer : run_answer part read (state_of run) ≡ slot_answer facts area
     unfolding run_answer
     read_answer = λ t. cond (is_done (ten t)) (cond (is_done (twelve t)) (eleven t) (twelve t)) (ten t)
+
+    -- where it is refused, both buffers stay
+    pub stopped : (room : List ℕ) (refusal : Refusal) → answer_of refusal ≡ run_answer part read (state_of run) → RunsSlot facts area room (answer_of refusal) area room
+    stopped room refusal e =
+        record {
+          refused = λ n. (e ∙ read_answer, refl, refl);
+          answer = λ z. absurd (runs z);
+          area = λ z. absurd (runs z);
+          grants = λ z. absurd (runs z);
+        }
+      where
+        runs : (slot_answer facts area).code ≡ 0 → ⊥
+        runs z = refuses refusal (ap (λ (r : Answer). r.code) (e ∙ read_answer) ∙ z)
 
     -- the run after its releases
     module _ (after : Run) (made : AfterReleases part run after) where

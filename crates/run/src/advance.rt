@@ -2,6 +2,7 @@
 ghost use Rattle.std.specs.Prelude.{◌*◌, ◌≤◌, length};
 ghost use Rattle.trade.specs.Limits.{area_bytes, grant_bytes};
 ghost use Rattle.trade.specs.Facts.{facts_in};
+ghost use Rattle.trade.specs.Refusals.{answered};
 ghost use Rattle.sections.specs.Formed.{Formed};
 ghost use Rattle.run.specs.Calls.{RunsSlot, Advances};
 
@@ -10,7 +11,7 @@ use area::due::due_in;
 use book::parts::{open_book, records_of, rows_of, steps_of};
 use slot::choice::chosen;
 use slot::granting::grant_all;
-use trade::{Answer, Grant, Run};
+use trade::{Answer, Grant, Refusal, Run};
 
 // One slot over the sections of a book: codes 10, 12 and 11 are tested before anything is written. Then the slot's grants go into one
 // buffer, and the run as it goes on into the other.
@@ -21,24 +22,17 @@ fn run_slot(
     steps: &[u8],
     area: &mut [u8],
     grants: &mut [u8],
-) -> Answer
+) -> Result<usize, Refusal>
     requires { Formed flows rows.now records.now steps.now × (area_bytes ≤ length area.old) × (grant_bytes * flows ≤ length grants.old) }
-    ensures { RunsSlot (facts_in 0 flows rows.now records.now steps.now) area.old grants.old result
+    ensures { RunsSlot (facts_in 0 flows rows.now records.now steps.now) area.old grants.old (answered (λ n. n) result)
         area.new grants.new }
 {
-    let run = read_run(area);
-    let due = due_in(flows, records, run);
-    let refusal = due.answer;
-    if refusal.code != 0 {
-        return refusal;
-    }
-    let released = due.run;
-    let choice = chosen(flows, rows, records, steps, released);
-    let firsts = due.firsts;
-    let out = grant_all(records, firsts, released, choice, grants);
-    let next = out.run;
-    write_run(area, next);
-    Answer::done(out.count as u64)
+    let due = due_in(flows, records, read_run(area));
+    due.test?;
+    let choice = chosen(flows, rows, records, steps, due.run);
+    let out = grant_all(records, due.firsts, due.run, choice, grants);
+    write_run(area, out.run);
+    Ok(out.count)
 }
 
 // Codes 1 to 8 and 13, then those of the slot. A refused call leaves both buffers as lent.
@@ -62,5 +56,8 @@ pub fn advance(book: &[u8], area: &mut [u8], grants: &mut [u8]) -> Answer
     let rows = rows_of(book, f);
     let records = records_of(book, f);
     let steps = steps_of(book, f);
-    run_slot(flows, rows, records, steps, area, grants)
+    match run_slot(flows, rows, records, steps, area, grants) {
+        Ok(count) => Answer::done(count as u64),
+        Err(refusal) => refusal.answer(),
+    }
 }

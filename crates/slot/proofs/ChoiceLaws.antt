@@ -12,6 +12,7 @@ use lib.ListN.{length, replicate, length-set}
 use lib.ListN as lists
 use lib.Seq.{get_or-set_same, get_or-set_other}
 use borrow.Author.Tests.{lt-ltb, le-ltb, ltb-true, eqb-true, eqb-false}
+use Rattle.std.specs.Prelude.{Some, None}
 use Rattle.trade.specs.Limits.{most_flows}
 use Rattle.trade.specs.Bytes.{bit}
 use Rattle.trade.specs.Layout.{field}
@@ -30,8 +31,16 @@ use Rattle.sections.proofs.FormedLaws.{plan_ends}
 use Rattle.slot.specs.States.{none_due}
 use Rattle.slot.specs.Choice.{next_of, goes_now, Turning, Turned, sent_at, Chooses}
 use Rattle.slot.specs.declared.choice.Turn.{Turn}
-use Rattle.slot.specs.declared.choice.Taken.{Taken}
 use Rattle.slot.proofs.Places.{repeated}
+
+-- what is given under a test tells how the test came out
+test_failed : {A : Type 0} (b : Bool) (x : A) → None ≡ cond b (Some x) None → b ≡ false
+test_failed true x e = cc
+test_failed false x e = refl
+
+test_held : {A : Type 0} (b : Bool) (x y : A) → Some y ≡ cond b (Some x) None → (b ≡ true) × (y ≡ x)
+test_held true x y e = (refl, cc)
+test_held false x y e = (cc, cc)
 
 module _ (flows : ℕ) (rows records steps : List ℕ) (state : State) where
   -- what the sections say, and the flows that go, of the first i
@@ -102,16 +111,16 @@ module _ (flows : ℕ) (rows records steps : List ℕ) (state : State) where
           (λ (h : field records i 4 ≤ state.done i). rw (le-ltb (state.done i) (field records i 4) h))
           (lt_or_ge (state.done i) (field records i 4))
 
-      module _ (r : Taken) (turned : Turned rows steps turn set r) where
-        pub chosen_waits : r.goes ≡ false → Chosen (suc i) r.set places sent
-        chosen_waits n =
-            let e : picked ≡ false = sym goes_as ∙ sym turned.goes ∙ n in
+      module _ (left : GrantSet) where
+        pub chosen_waits : Turned rows steps turn set None left → Chosen (suc i) left places sent
+        chosen_waits turned =
+            let e : picked ≡ false = sym goes_as ∙ test_failed _ _ turned.sends in
             let stay : goers (suc i) ≡ goers i = going_stays (greedy facts none_due state) (unfinished facts none_due state) i e in
             rw (stay, turned.waits (goes_as ∙ e)) so
 
-        module _ (went : r.goes ≡ true) where
+        module _ (step : Transmission) (turned : Turned rows steps turn set (Some step) left) where
           e : picked ≡ true
-          e = sym goes_as ∙ sym turned.goes ∙ went
+          e = sym goes_as ∙ (test_held _ _ _ turned.sends).0
 
           next : next_of steps turn ≡ next_step facts none_due state i
           next = turn_next (busy e)
@@ -126,20 +135,20 @@ module _ (flows : ℕ) (rows records steps : List ℕ) (state : State) where
               rw (bit_or_lem, bit_only i k, q, or-false (bit places k)) (so.there k ∙ sym (among_more (goers i) i k (eqb-false i k q))))
               (bool_cases (eqb i k))
 
-          sends_next : (k : ℕ) → sent_at (lists.set sent i r.step) k ≡ cond (among (goers i ++ (i ∷ [])) k) (next_step facts none_due state k) no_step
+          sends_next : (k : ℕ) → sent_at (lists.set sent i step) k ≡ cond (among (goers i ++ (i ∷ [])) k) (next_step facts none_due state k) no_step
           unfolding sent_at
           sends_next k =
               ⊎_elim
               (λ (q : eqb i k ≡ true).
               let same : i ≡ k = eqb-true i k q in
               rw (← same, among_last (goers i) i)
-              (get_or-set_same sent i r.step no_step (omega (arith, so.size, formed.most)) ∙ turned.step (goes_as ∙ e) ∙ next))
+              (get_or-set_same sent i step no_step (omega (arith, so.size, formed.most)) ∙ (test_held _ _ _ turned.sends).1 ∙ next))
               (λ (q : eqb i k ≡ false).
               rw (among_more (goers i) i k (eqb-false i k q))
-              (get_or-set_other sent i k r.step no_step (λ z. eqb-false i k q (sym z)) ∙ so.sends k))
+              (get_or-set_other sent i k step no_step (λ z. eqb-false i k q (sym z)) ∙ so.sends k))
               (bool_cases (eqb i k))
 
-          pub chosen_goes : Chosen (suc i) r.set (bit_or places (2 ^ i)) (lists.set sent i r.step)
+          pub chosen_goes : Chosen (suc i) left (bit_or places (2 ^ i)) (lists.set sent i step)
           chosen_goes =
               let more : goers (suc i) ≡ goers i ++ (i ∷ []) = going_goes (greedy facts none_due state) (unfinished facts none_due state) i e in
               rw more
@@ -148,6 +157,6 @@ module _ (flows : ℕ) (rows records steps : List ℕ) (state : State) where
                     rw (map-append (next_step facts none_due state) (goers i) (i ∷ []), ← next)
                     ((turned.more (goes_as ∙ e)).holds (map (next_step facts none_due state) (goers i)) so.holds);
                 there = placed;
-                size = length-set sent i r.step ∙ so.size;
+                size = length-set sent i step ∙ so.size;
                 sends = sends_next;
               })

@@ -2,7 +2,7 @@
 -- each of these flows is one step on. Leans on Places, on the nodes' LowestLaws, and on the trade's Slot. Assumes nothing.
 use Prim.Native.Nat.{ℕ, zero, suc, ◌+◌, ◌-◌, ◌*◌, ◌≤◌, ◌<◌}
 use mathlib.Core.Path.{◌≡◌, refl, sym, ◌∙◌, ap}
-use mathlib.Core.Bool.{Bool, true, false, not, ◌&&◌, and-false}
+use mathlib.Core.Bool.{Bool, true, false, not, ◌&&◌, and-true, and-false}
 use mathlib.Core.Logic.{◌⊎◌, inl, inr, ⊎_elim}
 use mathlib.Core.List.{List, [], ◌∷◌, ◌++◌, append-nil}
 use native.Mathlib.Nat.{add-zero}
@@ -35,11 +35,6 @@ use Rattle.slot.specs.Choice.{sent_at}
 use Rattle.slot.specs.Granting.{grant_by, grant_for, places_in, Granting, Grants}
 use Rattle.slot.specs.declared.choice.Choice.{Choice}
 use Rattle.slot.proofs.Places.{stored, unstored}
-
--- a test beside one that holds, and beside one that fails
-and_yes : (b : Bool) → (b && true) ≡ b
-and_yes true = refl
-and_yes false = refl
 
 -- the grants of one flow more stand behind those of the others
 grants_last : (grant : ℕ → List ℕ) (is : List ℕ) (i : ℕ) → grants_of grant (is ++ (i ∷ [])) ≡ grants_of grant is ++ grant i
@@ -185,21 +180,21 @@ module _ (records : List ℕ) (firsts : List Slot) (run : Run) (choice : Choice)
   Left k rest = (j : ℕ) → bit rest j ≡ (bit goes j && leb k j)
 
   pub left_all : Left 0 goes
-  left_all j = rw (le-leb 0 j (omega arith)) (sym (and_yes (bit goes j)))
+  left_all j = rw (le-leb 0 j (omega arith)) (sym (and-true (bit goes j)))
 
   module _ (k rest p : ℕ) (left : Left k rest) (low : Lowest rest p) where
     here : (bit goes p ≡ true) × (leb k p ≡ true)
     here = and_true (bit goes p) (leb k p) (sym (left p) ∙ low.set)
 
     between : (j : ℕ) → k ≤ j → j < p → bit goes j ≡ false
-    between j l h = sym (and_yes (bit goes j)) ∙ rw (← le-leb k j l) (sym (left j) ∙ low.below j h)
+    between j l h = sym (and-true (bit goes j)) ∙ rw (← le-leb k j l) (sym (left j) ∙ low.below j h)
 
     pub left_next : Left (suc p) (bit_and rest (rest - 1))
     left_next j =
         low.cleared j
         ∙ ⊎_elim
         (λ (h : p < j).
-        rw (left j, le-leb (suc p) j (omega arith), le-leb k j (omega (arith, leb-true k p here.1)), ne_eqb p j (λ e. omega arith)) (and_yes (bit goes j && true)))
+        rw (left j, le-leb (suc p) j (omega arith), le-leb k j (omega (arith, leb-true k p here.1)), ne_eqb p j (λ e. omega arith)) (and-true (bit goes j && true)))
         (λ (h : j ≤ p).
         rw (lt-leb (suc p) j (omega arith))
         (⊎_elim (λ (l : j < p). rw (low.below j l) (sym (and-false (bit goes j))))
@@ -287,7 +282,7 @@ module _ (records : List ℕ) (firsts : List Slot) (run : Run) (choice : Choice)
   -- once none is left, the slot has run
   module _ (k rest : ℕ) (left : Left k rest) (none : rest ≡ 0) (few : k ≤ most_flows) (asked : Granting records run choice (length lent)) (places : List Progress) (count : ℕ) (grants : List ℕ) (so : Given k places count grants) where
     nothing : (j : ℕ) → k ≤ j → bit goes j ≡ false
-    nothing j l = sym (and_yes (bit goes j)) ∙ rw (← le-leb k j l) (sym (left j) ∙ ap (λ (n : ℕ). bit n j) none ∙ bit_none j)
+    nothing j l = sym (and-true (bit goes j)) ∙ rw (← le-leb k j l) (sym (left j) ∙ ap (λ (n : ℕ). bit n j) none ∙ bit_none j)
 
     all : Given most_flows places count grants
     all = let e : k + (most_flows - k) ≡ most_flows = omega arith in rw e at (given_on k (most_flows - k) places count grants (λ j l h. nothing j l) so)

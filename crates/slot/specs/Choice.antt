@@ -1,6 +1,6 @@
 -- One flow's turn in a slot that has its releases, and the flows that go. Leans on States, on the grant set of nodes and the view of
 -- plans.
-use Rattle.std.specs.Prelude.{ℕ, ◌<◌, ◌≡◌, Bool, true, false, cond, not, ◌&&◌, List, ltb, length, get_or}
+use Rattle.std.specs.Prelude.{ℕ, ◌<◌, ◌≡◌, Bool, true, false, cond, not, ◌&&◌, Option, Some, None, List, ltb, length, get_or}
 use Rattle.trade.specs.Limits.{most_flows}
 use Rattle.trade.specs.Bytes.{bit}
 use Rattle.trade.specs.Facts.{Facts}
@@ -12,7 +12,6 @@ use Rattle.nodes.specs.declared.grants.GrantSet.{GrantSet}
 use Rattle.plans.specs.Plan.{no_step, plan_step}
 use Rattle.slot.specs.States.{none_due}
 use Rattle.slot.specs.declared.choice.Turn.{Turn}
-use Rattle.slot.specs.declared.choice.Taken.{Taken}
 use Rattle.slot.specs.declared.choice.Choice.{Choice}
 
 -- the next step of a flow, read through the view of its plan
@@ -27,12 +26,11 @@ goes_now rows steps turn set = ltb turn.done.0 turn.len && not (clashes_with row
 abbrev pub Turning : List ℕ → List ℕ → Turn → Type 0
 Turning rows steps turn = turn.done.0 < turn.len → Within rows (next_of steps turn)
 
--- what a turn does: a flow that goes adds its next step to the set; another leaves the set as it was
-pub record Turned (rows steps : List ℕ) (turn : Turn) (set : GrantSet) (r : Taken) : Type 0 where
-  pub goes : r.goes ≡ goes_now rows steps turn set
-  pub waits : goes_now rows steps turn set ≡ false → r.set ≡ set
-  pub more : goes_now rows steps turn set ≡ true → Grown rows set (next_of steps turn) r.set
-  pub step : goes_now rows steps turn set ≡ true → r.step ≡ next_of steps turn
+-- what a turn does: a flow that goes sends its next step and adds it to the set; another sends nothing and leaves the set as it was
+pub record Turned (rows steps : List ℕ) (turn : Turn) (set : GrantSet) (r : Option Transmission) (left : GrantSet) : Type 0 where
+  pub sends : r ≡ cond (goes_now rows steps turn set) (Some (next_of steps turn)) None
+  pub waits : goes_now rows steps turn set ≡ false → left ≡ set
+  pub more : goes_now rows steps turn set ≡ true → Grown rows set (next_of steps turn) left
 
 -- what is sent from a place; nothing past the last place
 unfoldable pub sent_at : List Transmission → ℕ → Transmission

@@ -6,7 +6,7 @@ use crate::choice::Choice;
 use crate::release::instance_at;
 use crate::writer::write_grant;
 use sections::records::record_at;
-use trade::{Flow, Grant, Progress, Run, Slot, Step, Transmission};
+use trade::{Flow, Grant, Run, Slot, Step, Transmission};
 
 // What a slot leaves: the run as it goes on, and the count of grants.
 #[derive(Clone, Copy)]
@@ -32,7 +32,7 @@ fn grant_of(flow: Flow, first: Slot, slot: Slot, done: Step, step: Transmission)
 pub fn grant_all(
     records: &[u8],
     firsts: [Slot; Flow::MOST],
-    run: Run,
+    mut run: Run,
     choice: Choice,
     grants: &mut [u8],
 ) -> Outcome
@@ -40,28 +40,18 @@ pub fn grant_all(
     ensures { Grants records.now firsts run choice grants.old result grants.new }
 {
     let slot = run.slot;
-    let mut places = run.flows;
-    let sent = choice.sent;
     let mut rest = choice.places;
     let mut count = 0;
+    // The places of a set are its bits: the lowest that is left goes next.
     while rest != 0 {
-        let i = u32::trailing_zeros(rest) as usize;
-        let p = places[i];
-        let done = p.done;
-        let grant = grant_of(record_at(records, i), firsts[i], slot, done, sent[i]);
-        let at = Grant::BYTES * count;
-        write_grant(&mut grants[at..], grant);
-        places[i] = Progress {
-            done: Step(done.0 + 1),
-        };
+        let i = rest.trailing_zeros() as usize;
+        let done = run.flows[i].done;
+        let grant = grant_of(record_at(records, i), firsts[i], slot, done, choice.sent[i]);
+        write_grant(&mut grants[Grant::BYTES * count..], grant);
+        run.flows[i].done = Step(done.0 + 1);
         count += 1;
-        rest = rest & (rest - 1);
+        rest &= rest - 1;
     }
-    Outcome {
-        run: Run {
-            slot: Slot(slot.0 + 1),
-            flows: places,
-        },
-        count,
-    }
+    run.slot = Slot(slot.0 + 1);
+    Outcome { run, count }
 }

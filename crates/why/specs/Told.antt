@@ -1,13 +1,15 @@
 -- What is told of a flow, by the parts that the code has of it. Leans on the trade's Why, and on the slot's Choice.
-use Rattle.std.specs.Prelude.{ℕ, ◌≤◌, ◌≡◌, Bool, true, false, cond, List, leb, length}
+use Rattle.std.specs.Prelude.{ℕ, ◌≤◌, ◌≡◌, Bool, true, false, cond, Result, Ok, Err, List, leb, length}
 use Rattle.trade.specs.Limits.{most_flows}
 use Rattle.trade.specs.Bytes.{bit}
 use Rattle.trade.specs.Facts.{Facts}
 use Rattle.trade.specs.Answers.{refused, is_done}
+use Rattle.trade.specs.Refusals.{answer_of}
 use Rattle.trade.specs.Slot.{Releases, releases_of}
 use Rattle.trade.specs.Area.{state_in}
 use Rattle.trade.specs.Why.{why}
 use Rattle.trade.specs.declared.node.Transmission.{Transmission}
+use Rattle.trade.specs.declared.refusal.Refusal.{Refusal}
 use Rattle.trade.specs.declared.told.Told.{Told}
 use Rattle.trade.specs.declared.told.Told.TheVariants.{Refused}
 use Rattle.nodes.specs.Network.{Within}
@@ -33,5 +35,10 @@ told_in f area place =
     (cond (leb f.flows place) (Refused (refused 15 0)) (why f (releases_of f (state_in area)) (state_in area) place))
     (Refused (slot_answer f area))
 
-abbrev pub ToldIn : Facts → List ℕ → ℕ → Told → Type 0
-ToldIn f area place r = r ≡ told_in f area place
+-- what is told, or that the call is refused
+abbrev pub told_of : Result Told Refusal → Told
+told_of (Ok told) = told
+told_of (Err refusal) = Refused (answer_of refusal)
+
+abbrev pub ToldIn : Facts → List ℕ → ℕ → Result Told Refusal → Type 0
+ToldIn f area place r = told_of r ≡ told_in f area place

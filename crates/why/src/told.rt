@@ -19,7 +19,7 @@ use nodes::conflict::conflict;
 use plans::view::plan_step;
 use sections::records::{len_at, steps_before};
 use slot::choice::{Choice, chosen};
-use trade::{Answer, Flow, Run, Slot, Told, Transmission};
+use trade::{Answer, Flow, Refusal, Run, Slot, Told, Transmission};
 
 // Whether a place is in a set of places.
 fn has_place(places: u32, i: usize) -> bool
@@ -88,20 +88,17 @@ fn told_in(
     steps: &[u8],
     area: &[u8],
     place: usize,
-) -> Told
+) -> Result<Told, Refusal>
     requires { Formed flows rows.now records.now steps.now × (area_bytes ≤ length area.now) }
     ensures { ToldIn (facts_in 0 flows rows.now records.now steps.now) area.now place result }
 {
     let due = due_in(flows, records, read_run(area));
-    let refusal = due.answer;
-    if refusal.code != 0 {
-        return Told::Refused(refusal);
-    }
+    due.test?;
     if flows <= place {
-        return Told::Refused(Answer::refused(15, 0));
+        return Err(Refusal::NoPlace);
     }
-    let firsts = due.firsts;
-    told(flows, rows, records, steps, due.run, firsts[place], place)
+    let first = due.firsts[place];
+    Ok(told(flows, rows, records, steps, due.run, first, place))
 }
 
 // Codes 1 to 8 and 13, then those of the slot and of the place. It writes nothing.
@@ -117,12 +114,16 @@ pub fn why(book: &[u8], area: &[u8], place: usize) -> Told
     if area.len() < Run::AREA_BYTES {
         return Told::Refused(Answer::refused(13, 0));
     }
-    told_in(
+    let told = told_in(
         f.flows,
         rows_of(book, f),
         records_of(book, f),
         steps_of(book, f),
         area,
         place,
-    )
+    );
+    match told {
+        Ok(told) => told,
+        Err(refusal) => Told::Refused(refusal.answer()),
+    }
 }

@@ -1,5 +1,5 @@
 -- `area::area::read_run` reads each place in turn, and then the slot. Assumes nothing.
-use Prim.Native.Nat.{ℕ, ◌-◌, ◌≤◌, ◌<◌}
+use Prim.Native.Nat.{ℕ, ◌<◌}
 use mathlib.Core.Path.{◌≡◌}
 use lib.ListN.{length}
 use Rattle.trade.specs.Limits.{most_flows}
@@ -8,10 +8,4 @@ use Rattle.slot.specs.States.{place_of}
 use Rattle.area.proofs.area.read_run.Given as goal
 
 abbrev pub invariant-loop-i : goal.invariant-loop-i
-invariant-loop-i l =
-    (l.i ≤ most_flows)
-    × (length l.flows ≡ most_flows)
-    × ((k : ℕ) → k < l.i → place_of l.flows k ≡ (state_in l.area).done k)
-
-abbrev pub decreases-loop-i : goal.decreases-loop-i
-decreases-loop-i l = most_flows - l.i
+invariant-loop-i l = (length l.flow-items ≡ most_flows) × ((k : ℕ) → k < l.i → place_of l.flow-items k ≡ (state_in l.area).done k)

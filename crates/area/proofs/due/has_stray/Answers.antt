@@ -1,13 +1,9 @@
 -- `area::due::has_stray` where none is seen, no unused place passed is other than 0. Assumes nothing.
-use native.Mathlib.Omega.{arith}
 use borrow.Author.Count.{below_more}
 use borrow.Author.Tests.{eqb-true, not-false}
 use Rattle.trade.proofs.First.{or_false}
 use Rattle.slot.specs.States.{place_of}
 use Rattle.area.proofs.due.has_stray.Goals as goal
-
-pub loop-i-init : goal.loop-i-init
-loop-i-init c = λ e k h l. absurd (omega arith)
 
 pub loop-i-preserved : goal.loop-i-preserved
 unfolding place_of
@@ -15,6 +11,3 @@ loop-i-preserved c e =
     let loop = c.loop-i in
     let (none, zero) = or_false loop.stray _ e in
     below_more _ _ (loop.invariant none) (λ l. eqb-true _ 0 (not-false _ zero))
-
-pub returns : goal.returns
-returns c = λ e k l h. c.loop-i.invariant e k (omega arith) l

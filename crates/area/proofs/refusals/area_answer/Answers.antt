@@ -1,4 +1,4 @@
--- `area::refusals::area_answer` no place passed is bad. The measure is how many are left. Assumes nothing.
+-- `area::refusals::area_answer` no place passed is bad. Assumes nothing.
 use mathlib.Core.Path.{◌≡◌, sym, ◌∙◌}
 use mathlib.Core.List.{[]}
 use native.Mathlib.Omega.{arith}
@@ -24,27 +24,23 @@ pub returns-then-slot-gt-END : goal.returns-then-slot-gt-END
 unfolding state_of
 returns-then-slot-gt-END c =
     let a = c.args in
-    c.refused.ensures ∙ sym (code10_late (facts_in 0 a.flows [] a.records.now []) (due_by (facts_in 0 a.flows [] a.records.now []) a.firsts a.run) (state_of a.run) c.if-slot-gt-END.true)
-
-pub loop-i-init : goal.loop-i-init
-loop-i-init c = (omega arith, omega arith, λ k h. absurd (omega arith))
+    sym (code10_late (facts_in 0 a.flows [] a.records.now []) (due_by (facts_in 0 a.flows [] a.records.now []) a.firsts a.run) (state_of a.run) c.if-slot-gt-END.true)
 
 pub returns-then-is_bad_place : goal.returns-then-is_bad_place
 unfolding state_of
 returns-then-is_bad_place c =
     let a = c.args in
     let loop = c.loop-i in
-    c.refused-then-is_bad_place.ensures
-    ∙ sym (code10_at (facts_in 0 a.flows [] a.records.now []) (due_by (facts_in 0 a.flows [] a.records.now []) a.firsts a.run) (state_of a.run) loop.i loop.invariant.1 (omega arith) loop.invariant.2 (sym (asked (goal.at.returns-then-is_bad_place c).After-is_bad_place) ∙ c.if-is_bad_place.true))
+    sym (code10_at (facts_in 0 a.flows [] a.records.now []) (due_by (facts_in 0 a.flows [] a.records.now []) a.firsts a.run) (state_of a.run) loop.i loop.invariant.0 (omega arith) loop.invariant.1 (sym (asked (goal.at.returns-then-is_bad_place c).After-is_bad_place) ∙ c.if-is_bad_place.true))
 
 pub loop-i-preserved : goal.loop-i-preserved
 loop-i-preserved c =
     let loop = c.loop-i in
-    (omega arith, loop.invariant.1, below_more _ _ loop.invariant.2 (sym (asked (goal.at.loop-i-preserved c).After-is_bad_place) ∙ c.if-is_bad_place.false))
+    (loop.invariant.0, below_more _ _ loop.invariant.1 (sym (asked (goal.at.loop-i-preserved c).After-is_bad_place) ∙ c.if-is_bad_place.false))
 
 pub returns : goal.returns
 unfolding state_of
 returns c =
     let a = c.args in
     let loop = c.loop-i in
-    c.done.ensures ∙ sym (code10_none (facts_in 0 a.flows [] a.records.now []) (due_by (facts_in 0 a.flows [] a.records.now []) a.firsts a.run) (state_of a.run) loop.invariant.1 (λ k h. loop.invariant.2 k (omega arith)))
+    sym (code10_none (facts_in 0 a.flows [] a.records.now []) (due_by (facts_in 0 a.flows [] a.records.now []) a.firsts a.run) (state_of a.run) loop.invariant.0 (λ k h. loop.invariant.1 k (omega arith)))

@@ -1,9 +1,9 @@
--- `area::refusals::area_answer` no place passed is bad. The measure is how many are left. Assumes nothing.
-use Prim.Native.Nat.{ℕ, ◌-◌, ◌≤◌, ◌<◌}
+-- `area::refusals::area_answer` no place passed is bad. Assumes nothing.
+use Prim.Native.Nat.{ℕ, ◌≤◌, ◌<◌}
 use mathlib.Core.Path.{◌≡◌}
 use mathlib.Core.Bool.{false, Bool}
 use mathlib.Core.List.{List, []}
-use Rattle.trade.specs.Limits.{most_flows, end_of_clock}
+use Rattle.trade.specs.Limits.{end_of_clock}
 use Rattle.trade.specs.Facts.{facts_in}
 use Rattle.trade.specs.SlotCodes.{bad_place}
 use Rattle.slot.specs.States.{state_of}
@@ -19,9 +19,5 @@ bad flows records firsts run k =
 
 abbrev pub invariant-loop-i : goal.invariant-loop-i
 invariant-loop-i l =
-    (l.i ≤ most_flows)
-    × (l.slot.0 ≤ end_of_clock)
-    × ((k : ℕ) → k < l.i → bad l.flows l.records l.firsts (record { slot = l.slot; flows = l.places }) k ≡ false)
-
-abbrev pub decreases-loop-i : goal.decreases-loop-i
-decreases-loop-i l = most_flows - l.i
+    (l.fn.run.slot.0 ≤ end_of_clock)
+    × ((k : ℕ) → k < l.i → bad l.flows l.records l.firsts l.fn.run k ≡ false)

@@ -1,4 +1,4 @@
--- `area::refusals::overrun_answer` no flow passed is overrun. The measure is how many are left. Assumes nothing.
+-- `area::refusals::overrun_answer` no flow passed is overrun. Assumes nothing.
 use mathlib.Core.Path.{◌≡◌, sym, ◌∙◌, ap}
 use mathlib.Core.List.{[]}
 use native.Mathlib.Omega.{arith}
@@ -27,9 +27,6 @@ asked c =
     ∙ ap (λ (w : Flow). overrun_at w (get_or a.firsts i (record { 0 = 0 })) a.run.slot (get_or a.run.flows i (idle_of 0))) c.record_at.ensures
     ∙ overrun_shown a.flows a.records.now a.firsts a.run i
 
-pub loop-i-init : goal.loop-i-init
-loop-i-init c = (omega arith, λ k h. absurd (omega arith))
-
 pub is_overrun-requires : goal.is_overrun-requires
 unfolding flow_in
 is_overrun-requires c = rw c.record_at.ensures (c.requires.1 c.loop-i.i c.loop-i-test.true)
@@ -39,17 +36,16 @@ unfolding facts_of
 returns-then-is_overrun c =
     let a = c.args in
     let loop = c.loop-i in
-    c.refused.ensures
-    ∙ sym (code11_at (facts_in 0 a.flows [] a.records.now []) (due_by (facts_in 0 a.flows [] a.records.now []) a.firsts a.run) (state_of a.run) loop.i (omega arith) loop.invariant.1 (sym (asked (goal.at.returns-then-is_overrun c).After-is_overrun) ∙ c.if-is_overrun.true))
+    sym (code11_at (facts_in 0 a.flows [] a.records.now []) (due_by (facts_in 0 a.flows [] a.records.now []) a.firsts a.run) (state_of a.run) loop.i (omega arith) loop.invariant (sym (asked (goal.at.returns-then-is_overrun c).After-is_overrun) ∙ c.if-is_overrun.true))
 
 pub loop-i-preserved : goal.loop-i-preserved
 loop-i-preserved c =
     let loop = c.loop-i in
-    (omega arith, below_more _ _ loop.invariant.1 (sym (asked (goal.at.loop-i-preserved c).After-is_overrun) ∙ c.if-is_overrun.false))
+    below_more _ _ loop.invariant (sym (asked (goal.at.loop-i-preserved c).After-is_overrun) ∙ c.if-is_overrun.false)
 
 pub returns : goal.returns
 unfolding facts_of
 returns c =
     let a = c.args in
     let loop = c.loop-i in
-    c.done.ensures ∙ sym (code11_none (facts_in 0 a.flows [] a.records.now []) (due_by (facts_in 0 a.flows [] a.records.now []) a.firsts a.run) (state_of a.run) (λ k h. loop.invariant.1 k (omega arith)))
+    sym (code11_none (facts_in 0 a.flows [] a.records.now []) (due_by (facts_in 0 a.flows [] a.records.now []) a.firsts a.run) (state_of a.run) (λ k h. loop.invariant k (omega arith)))

@@ -1,5 +1,5 @@
--- `area::refusals::overrun_answer` no flow passed is overrun. The measure is how many are left. Assumes nothing.
-use Prim.Native.Nat.{ℕ, ◌-◌, ◌≤◌, ◌<◌}
+-- `area::refusals::overrun_answer` no flow passed is overrun. Assumes nothing.
+use Prim.Native.Nat.{ℕ, ◌<◌}
 use mathlib.Core.Path.{◌≡◌}
 use mathlib.Core.Bool.{false, Bool}
 use mathlib.Core.List.{List, []}
@@ -17,8 +17,4 @@ late flows records firsts run k =
     overrun (facts_in 0 flows [] records []) (due_by (facts_in 0 flows [] records []) firsts run) (state_of run) k
 
 abbrev pub invariant-loop-i : goal.invariant-loop-i
-invariant-loop-i l =
-    (l.i ≤ l.flows) × ((k : ℕ) → k < l.i → late l.flows l.records l.firsts (record { slot = l.slot; flows = l.places }) k ≡ false)
-
-abbrev pub decreases-loop-i : goal.decreases-loop-i
-decreases-loop-i l = l.flows - l.i
+invariant-loop-i l = (k : ℕ) → k < l.i → late l.flows l.records l.firsts l.run k ≡ false

@@ -65,10 +65,20 @@ run_slot-requires c =
       c.if-grants-flows.false,
     )
 
-pub returns : goal.returns
+pub returns-in-Ok : goal.returns-in-Ok
 unfolding said facts_of
-returns c =
+returns-in-Ok c =
     let a = c.args in
-    let book = opened (goal.at.returns c).Else-answer-ne0 in
-    slot_advances a.book.now a.area.now a.grants.now book.done c.if-area-lt-AREA_BYTES.false (lent (goal.at.returns c).Else-grants-flows) c.run_slot.result _ _
-    (rw (book.flows, c.rows_of-rows.ensures, c.records_of-records.ensures, c.steps_of-steps.ensures) at c.run_slot.ensures)
+    let book = opened (goal.at.returns-in-Ok c).Else-answer-ne0 in
+    rw c.done.ensures
+    (slot_advances a.book.now a.area.now a.grants.now book.done c.if-area-lt-AREA_BYTES.false (lent (goal.at.returns-in-Ok c).Else-grants-flows) _ _ _
+    (rw (book.flows, c.rows_of-rows.ensures, c.records_of-records.ensures, c.steps_of-steps.ensures) at c.in-Ok.ensures))
+
+pub returns-in-Err : goal.returns-in-Err
+unfolding said facts_of
+returns-in-Err c =
+    let a = c.args in
+    let book = opened (goal.at.returns-in-Err c).Else-answer-ne0 in
+    rw c.answer.ensures
+    (slot_advances a.book.now a.area.now a.grants.now book.done c.if-area-lt-AREA_BYTES.false (lent (goal.at.returns-in-Err c).Else-grants-flows) _ _ _
+    (rw (book.flows, c.rows_of-rows.ensures, c.records_of-records.ensures, c.steps_of-steps.ensures) at c.in-Err.ensures))

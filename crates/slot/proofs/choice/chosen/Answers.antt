@@ -1,4 +1,4 @@
--- `slot::choice::chosen` takes the flows in record order. The measure is how many flows are left. Assumes nothing.
+-- `slot::choice::chosen` takes the flows in record order. Assumes nothing.
 use Prim.Native.Nat.{ℕ, ◌+◌}
 use mathlib.Core.Path.{◌≡◌, refl, ap₂}
 use native.Mathlib.Numerals.{add-one}
@@ -13,31 +13,19 @@ use Rattle.nodes.proofs.MaskLaws.{one_bit_of}
 use Rattle.slot.specs.States.{place_of, state_of}
 use Rattle.slot.proofs.ChoiceLaws.{chosen_none, chosen_all, turn_asks, chosen_waits, chosen_goes}
 use Rattle.slot.proofs.choice.chosen.Goals as goal
-use Rattle.slot.proofs.choice.chosen.Goals.{else-taken, then-taken}
+use Rattle.slot.proofs.choice.chosen.Goals.{in-Some, in_default}
 
 pub loop-i-init : goal.loop-i-init
 unfolding first_step sum_to
-loop-i-init c = (omega arith, refl, chosen_none _ _ _ _ _ c.empty-set.result c.empty-set.ensures)
+loop-i-init c = (refl, chosen_none _ _ _ _ _ c.empty-set.result c.empty-set.ensures)
 
-pub take_turn-taken-requires : goal.take_turn-taken-requires
+pub take_turn-requires : goal.take_turn-requires
 unfolding place_of
-take_turn-taken-requires c =
+take_turn-requires c =
     let a = c.args in
     let loop = c.loop-i in
-    rw (loop.invariant.1, c.len_at-len.ensures.0)
+    rw (loop.invariant.0, c.len_at-len.ensures.0)
     (turn_asks a.flows a.rows.now a.records.now a.steps.now (record { slot = 0; done = place_of a.run.flows }) c.requires.0 loop.i c.loop-i-test.true)
-
-pub overflow_cast-places : goal.overflow_cast-places
-overflow_cast-places c = omega (arith, c.loop-i-test.true, c.requires.0.most)
-
-pub overflow_shl-places : goal.overflow_shl-places
-overflow_shl-places c = omega (arith, c.loop-i-test.true, c.requires.0.most)
-
-pub offset_bounds-sent-i : goal.offset_bounds-sent-i
-offset_bounds-sent-i c = omega (arith, c.loop-i-test.true, c.requires.0.most)
-
-pub bounds-sent-i : goal.bounds-sent-i
-bounds-sent-i c = omega (arith, c.loop-i-test.true, c.requires.0.most)
 
 pub overflow_add-start : goal.overflow_add-start
 unfolding first_step facts_of
@@ -47,15 +35,12 @@ overflow_add-start c =
     let len : ℕ → ℕ = λ k. field c.args.records.now k 4 in
     omega (
       arith,
-      loop.invariant.1,
+      loop.invariant.0,
       c.len_at-len.ensures.1,
       sum_most len most_steps loop.i (λ k h. (c.requires.0.fields k (omega (arith, taken))).len.1),
       c.requires.0.most,
       taken,
     )
-
-pub overflow_add-i : goal.overflow_add-i
-overflow_add-i c = omega (arith, c.loop-i-test.true, c.requires.0.most)
 
 pub loop-i-preserved : goal.loop-i-preserved
 unfolding first_step facts_of place_of
@@ -63,17 +48,16 @@ loop-i-preserved c =
     let a = c.args in
     let loop = c.loop-i in
     let taken = c.loop-i-test.true in
-    let len = c.len_at-len.ensures.0 in
-    let turned = c.take_turn-taken in (
-      omega arith,
-      rw (add-one loop.i, sum_next (λ (k : ℕ). field a.records.now k 4) loop.i) (ap₂ ◌+◌ loop.invariant.1 len),
+    let len = c.len_at-len.ensures.0 in (
+      rw (add-one loop.i, sum_next (λ (k : ℕ). field a.records.now k 4) loop.i) (ap₂ ◌+◌ loop.invariant.0 len),
       rw (add-one loop.i)
-          (elim c.if-taken.branch [
-            | then-taken w ↦ rw (w.places-is, w.sent-is, one_bit_of 32 loop.i (omega (arith, taken, c.requires.0.most)))
-                (chosen_goes a.flows a.rows.now a.records.now a.steps.now (record { slot = 0; done = place_of a.run.flows }) c.requires.0 loop.i taken loop.set loop.places loop.sent loop.invariant.2 turned.result
-                (rw (loop.invariant.1, len) at turned.ensures) w.if-taken.true)
-            | else-taken w ↦ rw (w.places-is, w.sent-is) (chosen_waits a.flows a.rows.now a.records.now a.steps.now (record { slot = 0; done = place_of a.run.flows }) c.requires.0 loop.i taken loop.set loop.places loop.sent loop.invariant.2 turned.result
-                (rw (loop.invariant.1, len) at turned.ensures) w.if-taken.false)
+          (elim c.match-take_turn.branch [
+            | in-Some w ↦ rw (w.places-is, w.sent-is, one_bit_of 32 loop.i (omega (arith, taken, c.requires.0.most)))
+                (chosen_goes a.flows a.rows.now a.records.now a.steps.now (record { slot = 0; done = place_of a.run.flows }) c.requires.0 loop.i taken loop.set loop.places loop.sent loop.invariant.1 c.take_turn.new.set
+                w.in-Some.step (rw (loop.invariant.0, len) at w.in-Some.ensures))
+            | in_default w ↦ rw (w.places-is, w.sent-is)
+                (chosen_waits a.flows a.rows.now a.records.now a.steps.now (record { slot = 0; done = place_of a.run.flows }) c.requires.0 loop.i taken loop.set loop.places loop.sent loop.invariant.1 c.take_turn.new.set
+                (rw (loop.invariant.0, len) at w.in_default.ensures))
           ]),
     )
 
@@ -83,5 +67,5 @@ returns c =
     let a = c.args in
     let loop = c.loop-i in
     let all : loop.i ≡ a.flows = omega arith in
-    let all_made = chosen_all a.flows a.rows.now a.records.now a.steps.now (record { slot = 0; done = place_of a.run.flows }) loop.set loop.places loop.sent (rw all at loop.invariant.2) in
+    let all_made = chosen_all a.flows a.rows.now a.records.now a.steps.now (record { slot = 0; done = place_of a.run.flows }) loop.set loop.places loop.sent (rw all at loop.invariant.1) in
     record { goes = all_made.goes; size = all_made.size; sends = all_made.sends }

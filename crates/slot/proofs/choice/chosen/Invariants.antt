@@ -1,5 +1,4 @@
--- `slot::choice::chosen` takes the flows in record order. The measure is how many flows are left. Assumes nothing.
-use Prim.Native.Nat.{◌-◌, ◌≤◌}
+-- `slot::choice::chosen` takes the flows in record order. Assumes nothing.
 use mathlib.Core.Path.{◌≡◌}
 use Rattle.trade.specs.Facts.{facts_in, first_step}
 use Rattle.slot.specs.States.{place_of}
@@ -8,9 +7,5 @@ use Rattle.slot.proofs.choice.chosen.Given as goal
 
 abbrev pub invariant-loop-i : goal.invariant-loop-i
 invariant-loop-i l =
-    (l.i ≤ l.flows)
-    × (l.start ≡ first_step (facts_in 0 l.flows l.rows l.records l.steps) l.i)
-    × Chosen l.flows l.rows l.records l.steps (record { slot = 0; done = place_of l.progress }) l.i l.set l.places l.sent
-
-abbrev pub decreases-loop-i : goal.decreases-loop-i
-decreases-loop-i l = l.flows - l.i
+    (l.start ≡ first_step (facts_in 0 l.flows l.rows l.records l.steps) l.i)
+    × Chosen l.flows l.rows l.records l.steps (record { slot = 0; done = place_of l.run.flows }) l.i l.set l.places l.sent

@@ -1,5 +1,5 @@
 -- `slot::choice::take_turn` a flow that has finished waits, one whose next step clashes waits, and any other goes. Assumes nothing.
-use mathlib.Core.Path.{refl, sym, ◌∙◌, ap}
+use mathlib.Core.Path.{sym, ◌∙◌, ap}
 use Rattle.nodes.specs.Grants.{clashes_with}
 use Rattle.slot.specs.Choice.{next_of}
 use Rattle.slot.proofs.TurnLaws.{turned_finished, turned_clashes, turned_goes}
@@ -8,7 +8,7 @@ use Rattle.slot.proofs.choice.take_turn.Goals as goal
 pub returns-then-turn-done : goal.returns-then-turn-done
 returns-then-turn-done c =
     let a = c.args in
-    rw c.waits.ensures (turned_finished a.rows.now a.steps.now a.turn a.set c.if-turn-done.true)
+    turned_finished a.rows.now a.steps.now a.turn a.set.now c.if-turn-done.true
 
 pub clashes-requires : goal.clashes-requires
 unfolding next_of
@@ -18,19 +18,19 @@ pub returns-then-clashes : goal.returns-then-clashes
 unfolding next_of
 returns-then-clashes c =
     let a = c.args in
-    rw c.waits-then-clashes.ensures
-    (turned_clashes a.rows.now a.steps.now a.turn a.set c.if-turn-done.false
-    (sym (c.clashes.ensures.exact ∙ ap (clashes_with a.rows.now a.set) c.plan_step-step.ensures) ∙ c.if-clashes.true))
+    turned_clashes a.rows.now a.steps.now a.turn a.set.now c.if-turn-done.false
+    (sym (c.clashes.ensures.exact ∙ ap (clashes_with a.rows.now a.set.now) c.plan_step-step.ensures) ∙ c.if-clashes.true)
 
 pub with-requires : goal.with-requires
 unfolding next_of
 with-requires c = rw c.plan_step-step.ensures (c.requires c.if-turn-done.false)
 
-pub returns : goal.returns
+pub returns-else-clashes : goal.returns-else-clashes
 unfolding next_of
-returns c =
+returns-else-clashes c =
     let a = c.args in
     let next = c.plan_step-step.ensures in
-    turned_goes a.rows.now a.steps.now a.turn a.set c.if-turn-done.false
-    (sym (c.clashes.ensures.exact ∙ ap (clashes_with a.rows.now a.set) next) ∙ c.if-clashes.false)
-    _ refl (rw (← next) c.with.ensures) next
+    rw next
+    (turned_goes a.rows.now a.steps.now a.turn a.set.now c.if-turn-done.false
+    (sym (c.clashes.ensures.exact ∙ ap (clashes_with a.rows.now a.set.now) next) ∙ c.if-clashes.false)
+    _ (rw (← next) c.with.ensures))

@@ -5,8 +5,8 @@ use mathlib.Core.Path.{◌≡◌, ◌∙◌, ap}
 use mathlib.Core.Bool.{true}
 use native.Mathlib.Numerals.{add-one}
 use native.Mathlib.Omega.{arith}
-use lib.Bits.{and_le_l, and_le_r}
-use lib.Count.{count_trailing_zeros, trailing_le}
+use lib.Bits.{and_le_l}
+use lib.Count.{count_trailing_zeros}
 use lib.ListN.{length, get_or, length-take, length-drop}
 use Rattle.trade.specs.Limits.{most_flows, most_steps, grant_bytes}
 use Rattle.trade.specs.Bytes.{bit}
@@ -32,7 +32,7 @@ goes_at c =
     let a = c.args in
     let loop = c.loop-rest in
     flow_goes a.records.now a.firsts a.run a.choice a.grants.now loop.invariant.0 loop.rest (count_trailing_zeros 32 loop.rest) loop.invariant.2 (lowest c).1 c.requires
-    (lowest c).0 loop.places loop.count loop.grants loop.invariant.4
+    (lowest c).0 loop.run.flows loop.count loop.grants loop.invariant.4
 
 -- and there is room for its grant
 room : (c : In-loop-rest) → grant_bytes * c.loop-rest.count + grant_bytes ≤ length c.loop-rest.grants
@@ -40,16 +40,16 @@ room c =
     let a = c.args in
     let loop = c.loop-rest in
     given_room a.records.now a.firsts a.run a.choice a.grants.now loop.invariant.0 loop.rest (count_trailing_zeros 32 loop.rest) loop.invariant.2 (lowest c).1 c.requires
-    (lowest c).0 loop.places loop.count loop.grants loop.invariant.4
+    (lowest c).0 loop.run.flows loop.count loop.grants loop.invariant.4
 
 few : (c : In-loop-rest) → c.loop-rest.count < most_flows
 few c =
     let a = c.args in
     let loop = c.loop-rest in
     given_few a.records.now a.firsts a.run a.choice a.grants.now loop.invariant.0 loop.rest (count_trailing_zeros 32 loop.rest) loop.invariant.2 (lowest c).1 c.requires
-    (lowest c).0 loop.places loop.count loop.grants loop.invariant.4
+    (lowest c).0 loop.run.flows loop.count loop.grants loop.invariant.4
 
-busy : (c : In-loop-rest) → place_of c.loop-rest.places (count_trailing_zeros 32 c.loop-rest.rest) < most_steps
+busy : (c : In-loop-rest) → place_of c.loop-rest.run.flows (count_trailing_zeros 32 c.loop-rest.rest) < most_steps
 busy c =
     let a = c.args in
     let loop = c.loop-rest in
@@ -57,7 +57,7 @@ busy c =
       arith,
       c.requires.unfinished (count_trailing_zeros 32 loop.rest) (goes_at c),
       flow_done a.records.now a.firsts a.run a.choice a.grants.now loop.invariant.0 loop.rest (count_trailing_zeros 32 loop.rest) loop.invariant.2 (lowest c).1 c.requires
-          (lowest c).0 loop.places loop.count loop.grants loop.invariant.4,
+          (lowest c).0 loop.run.flows loop.count loop.grants loop.invariant.4,
     )
 
 pub loop-rest-init : goal.loop-rest-init
@@ -65,33 +65,15 @@ loop-rest-init c =
     let a = c.args in
     (0, omega arith, left_all a.records.now a.firsts a.run a.choice a.grants.now, omega arith, given_none a.records.now a.firsts a.run a.choice a.grants.now)
 
-pub overflow_cast-i : goal.overflow_cast-i
-overflow_cast-i c = omega (arith, trailing_le 32 c.loop-rest.rest)
-
-pub bounds-places-i : goal.bounds-places-i
-bounds-places-i c = (lowest (goal.at.bounds-places-i c).In-loop-rest).0
-
 pub record_at-requires : goal.record_at-requires
 record_at-requires c = c.requires.recorded (count_trailing_zeros 32 c.loop-rest.rest) (goes_at (goal.at.record_at-requires c).In-loop-rest)
-
-pub offset_bounds-firsts-i : goal.offset_bounds-firsts-i
-offset_bounds-firsts-i c = omega (arith, (lowest (goal.at.offset_bounds-firsts-i c).In-loop-rest).0)
-
-pub bounds-firsts-i : goal.bounds-firsts-i
-bounds-firsts-i c = omega (arith, (lowest (goal.at.bounds-firsts-i c).In-loop-rest).0)
-
-pub offset_bounds-sent-i : goal.offset_bounds-sent-i
-offset_bounds-sent-i c = omega (arith, (lowest (goal.at.offset_bounds-sent-i c).In-loop-rest).0)
-
-pub bounds-sent-i : goal.bounds-sent-i
-bounds-sent-i c = omega (arith, (lowest (goal.at.bounds-sent-i c).In-loop-rest).0)
 
 pub grant_of-grant-requires : goal.grant_of-grant-requires
 unfolding flow_in
 grant_of-grant-requires c = rw c.record_at.ensures (c.requires.period (count_trailing_zeros 32 c.loop-rest.rest) (goes_at (goal.at.grant_of-grant-requires c).In-loop-rest))
 
-pub overflow_mul-at : goal.overflow_mul-at
-overflow_mul-at c = omega (arith, few (goal.at.overflow_mul-at c).In-loop-rest)
+pub overflow_mul-count : goal.overflow_mul-count
+overflow_mul-count c = omega (arith, few (goal.at.overflow_mul-count c).In-loop-rest)
 
 pub slice_bounds-write_grant-count : goal.slice_bounds-write_grant-count
 slice_bounds-write_grant-count c = omega (arith, room (goal.at.slice_bounds-write_grant-count c).In-loop-rest)
@@ -102,18 +84,12 @@ slice_bounds-write_grant-start c = omega (arith, room (goal.at.slice_bounds-writ
 pub write_grant-requires : goal.write_grant-requires
 write_grant-requires c = simp (length-take, length-drop) (omega (arith, room (goal.at.write_grant-requires c).In-loop-rest))
 
-pub overflow_add-places : goal.overflow_add-places
+pub overflow_add-run : goal.overflow_add-run
 unfolding place_of
-overflow_add-places c = omega (arith, busy (goal.at.overflow_add-places c).In-loop-rest)
-
-pub bounds-places-i-in-loop-rest : goal.bounds-places-i-in-loop-rest
-bounds-places-i-in-loop-rest c = omega (arith, (lowest (goal.at.bounds-places-i-in-loop-rest c).In-loop-rest).0)
+overflow_add-run c = omega (arith, busy (goal.at.overflow_add-run c).In-loop-rest)
 
 pub overflow_add-count : goal.overflow_add-count
 overflow_add-count c = omega (arith, few (goal.at.overflow_add-count c).In-loop-rest)
-
-pub loop-rest-smaller : goal.loop-rest-smaller
-loop-rest-smaller c = let rest : ℕ = c.loop-rest.rest in omega (arith, and_le_r rest (rest - 1))
 
 pub loop-rest-preserved : goal.loop-rest-preserved
 unfolding place_of sent_at
@@ -129,9 +105,9 @@ loop-rest-preserved c =
       rw (add-one p) (left_next a.records.now a.firsts a.run a.choice a.grants.now loop.invariant.0 loop.rest p loop.invariant.2 low),
       omega (arith, and_le_l loop.rest (loop.rest - 1), loop.invariant.3),
       rw (add-one p)
-          (given_goes a.records.now a.firsts a.run a.choice a.grants.now loop.invariant.0 loop.rest p loop.invariant.2 low c.requires below loop.places loop.count
+          (given_goes a.records.now a.firsts a.run a.choice a.grants.now loop.invariant.0 loop.rest p loop.invariant.2 low c.requires below loop.run.flows loop.count
           loop.grants loop.invariant.4 grant.result
-          (grant.ensures ∙ ap (λ (w : Flow). grant_by w (get_or a.firsts p (record { 0 = 0 })) a.run.slot (get_or loop.places p (idle_of 0)).done (get_or a.choice.sent p no_step)) c.record_at.ensures)
+          (grant.ensures ∙ ap (λ (w : Flow). grant_by w (get_or a.firsts p (record { 0 = 0 })) a.run.slot (get_or loop.run.flows p (idle_of 0)).done (get_or a.choice.sent p no_step)) c.record_at.ensures)
           put.new.part put.ensures),
     )
 
@@ -139,4 +115,4 @@ pub returns : goal.returns
 returns c =
     let a = c.args in
     let loop = c.loop-rest in
-    given_all a.records.now a.firsts a.run a.choice a.grants.now loop.invariant.0 loop.rest loop.invariant.2 (omega arith) loop.invariant.1 c.requires loop.places loop.count loop.grants loop.invariant.4
+    given_all a.records.now a.firsts a.run a.choice a.grants.now loop.invariant.0 loop.rest loop.invariant.2 (omega arith) loop.invariant.1 c.requires loop.run.flows loop.count loop.grants loop.invariant.4

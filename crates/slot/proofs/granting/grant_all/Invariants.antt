@@ -9,9 +9,9 @@ abbrev pub invariant-loop-rest : goal.invariant-loop-rest
 invariant-loop-rest l =
     (k : ℕ)
     × (k ≤ most_flows)
-    × Left l.records l.firsts (record { slot = l.slot; flows = l.initial.places }) (record { places = l.initial.rest; sent = l.sent }) l.initial.grants k l.rest
-    × (l.rest ≤ l.initial.rest)
-    × Given l.records l.firsts (record { slot = l.slot; flows = l.initial.places }) (record { places = l.initial.rest; sent = l.sent }) l.initial.grants k l.places l.count l.grants
+    × Left l.records l.firsts l.initial.run l.choice l.initial.grants k l.rest
+    × (l.rest ≤ l.choice.places)
+    × Given l.records l.firsts l.initial.run l.choice l.initial.grants k l.run.flows l.count l.grants
 
 abbrev pub decreases-loop-rest : goal.decreases-loop-rest
 decreases-loop-rest l = l.rest

@@ -1,12 +1,13 @@
 -- `slot::release::is_released` counts from the first release, and before it nothing is released. Assumes nothing.
-use borrow.Author.Tests.{lt-leb, le-leb}
+use native.Mathlib.Omega.{arith}
+use Rattle.std.proofs.lemmas.Bool.Decides.{nat_tests}
 use Rattle.slot.specs.Release.{released_at}
 use Rattle.slot.proofs.release.is_released.Goals as goal
 
-pub returns-then-slot-first : goal.returns-then-slot-first
+pub returns-then-le : goal.returns-then-le
 unfolding released_at
-returns-then-slot-first c = simp (lt-leb _ _ c.if-slot-first.true)
+returns-then-le c = grind (arith, nat_tests)
 
-pub returns : goal.returns
+pub returns-else-le : goal.returns-else-le
 unfolding released_at
-returns c = simp (le-leb _ _ c.if-slot-first.false)
+returns-else-le c = grind (arith, nat_tests)

@@ -63,8 +63,7 @@ pub const PLAN: [u8; Plan::MOST * Plan::STEP_BYTES] = *b"\
 pub(crate) fn largest() -> Table {
     let mut table = Table::empty();
     table.nodes = Node::MOST as u8;
-    let mut i = 0;
-    while i < Flow::MOST {
+    for i in 0..Flow::MOST {
         let flow = Flow {
             id: (i + 1) as u16,
             phase: 0,
@@ -72,9 +71,7 @@ pub(crate) fn largest() -> Table {
             deadline: 100,
             len: 1,
         };
-        let changed = add(table, i, flow, PLAN);
-        table = changed.table;
-        i += 1;
+        table = add(table, i, flow, PLAN).table;
     }
     table
 }

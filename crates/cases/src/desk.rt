@@ -1,13 +1,11 @@
-// The desk on which a case is tried, and what is done there: small steps, each from a desk to the next.
+// The desk on which a case is tried, and what is done there, in small steps.
 use crate::books::{B_BYTES, Base, PLAN, ROOM};
 use crate::orders::Order;
 use bounds::acceptance::check;
 use changes::change::{Changed, add, remove};
-use numbers::numbers::WORDS;
-use numbers::pasting::put_at;
 use run::advance::advance;
 use run::start::start;
-use table::table::{Table, read};
+use table::table::{Got, Table, read};
 use table::written::write;
 use trade::{Answer, Flow, Grant, Run};
 
@@ -16,9 +14,9 @@ const AREA: usize = Run::AREA_BYTES + 2;
 
 const GRANTS: usize = 2 * Grant::BYTES;
 
-#[derive(Clone, Copy)]
+#[derive(Drop)]
 pub(crate) struct Desk {
-    // The book stands at the end of the room.
+    // The book stands at the end of the room, from a place on. It is no Vec: the place can move back, to bytes that were in front.
     pub room: [u8; ROOM],
     pub from: usize,
     pub table: Table,
@@ -29,31 +27,18 @@ pub(crate) struct Desk {
 
 // The last bytes, or all.
 fn last(s: &mut [u8], n: usize) -> &mut [u8] {
-    if s.len() < n {
-        return s;
-    }
-    let from = s.len() - n;
+    let from = s.len().saturating_sub(n);
     &mut s[from..]
 }
 
 // What two bytes hold of a number.
 fn word(n: usize) -> u16 {
-    (n % (WORDS as usize)) as u16
+    (n & 0xffff) as u16
 }
 
 // How many bytes agree, from the front on.
-fn agreeing(book: &[u8], written: &[u8]) -> u64 {
-    let mut i = 0;
-    while i < book.len() {
-        if written.len() <= i {
-            return i as u64;
-        }
-        if book[i] != written[i] {
-            return i as u64;
-        }
-        i += 1;
-    }
-    i as u64
+fn agreeing(book: &[u8], written: &[u8]) -> usize {
+    book.iter().zip(written).take_while(|(a, b)| a == b).count()
 }
 
 impl Desk {
@@ -67,97 +52,73 @@ impl Desk {
         }
     }
 
-    pub(crate) fn lay(mut self, base: Base, len: usize) -> Self {
-        let mut room = self.room;
-        put_at(&mut room, ROOM - B_BYTES, &base);
-        self.room = room;
-        self.keep(len)
+    pub(crate) fn lay(&mut self, base: Base, len: usize) {
+        self.room[ROOM - B_BYTES..].copy_from_slice(&base);
+        self.keep(len);
     }
 
-    pub(crate) fn keep(mut self, n: usize) -> Self {
+    pub(crate) fn keep(&mut self, n: usize) {
         self.from = ROOM - n % (ROOM + 1);
-        self
     }
 
-    pub(crate) fn put(mut self, at: usize, n: u8) -> Self {
-        let i = (self.from % ROOM + at % ROOM) % ROOM;
-        self.room[i] = n;
-        self
+    pub(crate) fn put(&mut self, at: usize, n: u8) {
+        self.room[(self.from % ROOM + at % ROOM) % ROOM] = n;
     }
 
-    pub(crate) fn read(mut self, book: &[u8]) -> Self {
-        let got = read(book);
-        let table = got.table;
-        let answer = got.answer;
-        self.table = table;
+    pub(crate) fn read(&mut self, book: &[u8]) {
+        let Got { answer, table } = read(book);
         self.answer = answer;
-        self
+        self.table = table;
     }
 
-    pub(crate) fn write(mut self, n: usize) -> Self {
-        let mut room = self.room;
-        self.answer = write(self.table, last(&mut room, n));
-        self.room = room;
-        self.keep(n)
+    pub(crate) fn write(&mut self, n: usize) {
+        self.answer = write(self.table, last(&mut self.room, n));
+        self.keep(n);
     }
 
-    pub(crate) fn compare(mut self, book: &[u8]) -> Self {
+    pub(crate) fn compare(&mut self, book: &[u8]) {
         let mut written = [0u8; ROOM];
         write(self.table, &mut written);
-        self.answer = Answer::done(agreeing(book, &written));
-        self
+        self.answer = Answer::done(agreeing(book, &written) as u64);
     }
 
-    fn changed(mut self, changed: Changed) -> Self {
-        let table = changed.table;
-        let answer = changed.answer;
-        self.table = table;
-        self.answer = answer;
-        self
+    fn change(&mut self, changed: Changed) {
+        self.answer = changed.answer;
+        self.table = changed.table;
     }
 
-    pub(crate) fn add(self, order: Order) -> Self {
+    pub(crate) fn add(&mut self, order: Order) {
+        let [n, len, deadline, period, id, place] = order.numbers;
         let mut plan = PLAN;
-        plan[0] = (order.n % 256) as u8;
+        plan[0] = (n & 0xff) as u8;
         let flow = Flow {
-            id: word(order.n4),
+            id: word(id),
             phase: 0,
-            period: word(order.n3),
-            deadline: word(order.n2),
-            len: word(order.n1),
+            period: word(period),
+            deadline: word(deadline),
+            len: word(len),
         };
-        self.changed(add(self.table, order.n5, flow, plan))
+        self.change(add(self.table, place, flow, plan));
     }
 
-    pub(crate) fn remove(self, place: usize) -> Self {
-        self.changed(remove(self.table, place))
+    pub(crate) fn remove(&mut self, place: usize) {
+        self.change(remove(self.table, place));
     }
 
-    pub(crate) fn check(mut self, book: &[u8]) -> Self {
-        let checked = check(book);
-        let answer = checked.answer;
-        self.answer = answer;
-        self
+    pub(crate) fn check(&mut self, book: &[u8]) {
+        self.answer = check(book).answer;
     }
 
-    pub(crate) fn start(mut self, book: &[u8], n: usize) -> Self {
-        let mut area = self.area;
-        self.answer = start(book, last(&mut area, n));
-        self.area = area;
-        self
+    pub(crate) fn start(&mut self, book: &[u8], n: usize) {
+        self.answer = start(book, last(&mut self.area, n));
     }
 
-    pub(crate) fn advance(mut self, book: &[u8], n: usize, k: usize) -> Self {
-        let mut area = self.area;
+    pub(crate) fn advance(&mut self, book: &[u8], n: usize, k: usize) {
         let mut grants = [0u8; GRANTS];
-        self.answer = advance(book, last(&mut area, n), last(&mut grants, k));
-        self.area = area;
-        self
+        self.answer = advance(book, last(&mut self.area, n), last(&mut grants, k));
     }
 
-    pub(crate) fn done(mut self, at: usize, n: u8) -> Self {
-        let i = (AREA - Run::AREA_BYTES + at % AREA) % AREA;
-        self.area[i] = n;
-        self
+    pub(crate) fn done(&mut self, at: usize, n: u8) {
+        self.area[(AREA - Run::AREA_BYTES + at % AREA) % AREA] = n;
     }
 }

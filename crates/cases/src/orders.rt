@@ -1,48 +1,37 @@
 // A word of a case with its numbers, taken in byte by byte.
 #[derive(Clone, Copy)]
 pub(crate) struct Order {
-    // The first letter of the word, 0 where it has none.
-    pub word: u8,
-    // The last number, and those before it.
-    pub n: usize,
-    pub n1: usize,
-    pub n2: usize,
-    pub n3: usize,
-    pub n4: usize,
-    pub n5: usize,
+    // The first letter of the word, if it has one.
+    pub word: Option<u8>,
+    // Its last numbers, from the last one back.
+    pub numbers: [usize; 6],
 }
 
 impl Order {
     // A number has up to ten digits.
     const TENTH: usize = 1_000_000_000;
 
-    pub(crate) fn new() -> Self {
-        Order {
-            word: 0,
-            n: 0,
-            n1: 0,
-            n2: 0,
-            n3: 0,
-            n4: 0,
-            n5: 0,
+    pub(crate) fn of(word: &[u8]) -> Self {
+        let mut order = Order {
+            word: None,
+            numbers: [0; 6],
+        };
+        for b in word {
+            order.take(*b);
         }
+        order
     }
 
-    pub(crate) fn with(mut self, b: u8) -> Self {
-        if b'?' <= b {
-            if self.word == 0 {
-                self.word = b;
+    fn take(&mut self, b: u8) {
+        match b {
+            b'?'.. => self.word = self.word.or(Some(b)),
+            b'0'..=b'9' => {
+                self.numbers[0] = self.numbers[0] % Order::TENTH * 10 + usize::from(b - b'0');
             }
-        } else if b < b'0' || b'9' < b {
-            self.n5 = self.n4;
-            self.n4 = self.n3;
-            self.n3 = self.n2;
-            self.n2 = self.n1;
-            self.n1 = self.n;
-            self.n = 0;
-        } else {
-            self.n = self.n % Order::TENTH * 10 + (b % 16) as usize;
+            _ => {
+                self.numbers.rotate_right(1);
+                self.numbers[0] = 0;
+            }
         }
-        self
     }
 }

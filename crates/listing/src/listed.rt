@@ -1,6 +1,6 @@
 // The listing of a book: the bounds of its flows and the grants of its first slots, or why it is refused.
 ghost use Rattle.std.specs.Prelude.{◌*◌, ◌≤◌, length};
-ghost use Rattle.trade.specs.Limits.{most_flows, record_bytes, grant_bytes};
+ghost use Rattle.trade.specs.Limits.{most_flows, record_bytes};
 
 use crate::lines::{print_book, print_bound, print_grant, print_refusal};
 use book::parts::{open_book, records_of};
@@ -23,26 +23,23 @@ fn list_bounds(
 ) -> io::Result<()>
     requires { (flows ≤ most_flows) × (record_bytes * flows ≤ length records.now) }
 {
-    let mut i = 0;
-    while i < flows {
-        print_bound(rt, record_at(records, i), bounds[i])?;
-        i += 1;
+    let bounds = &bounds[..flows];
+    for (i, bound) in bounds.iter().enumerate() {
+        print_bound(rt, record_at(records, i), *bound)?;
     }
     Ok(())
 }
 
 // The grants of a slot, of which there is at most one for each flow place.
-fn list_grants(rt: &impl Print, slot: Slot, count: u64, grants: &[u8]) -> io::Result<()>
-    requires { grant_bytes * most_flows ≤ length grants.now }
-{
-    let mut i = 0;
-    while i < Flow::MOST {
-        if count <= i as u64 {
-            return Ok(());
-        }
-        let at = Grant::BYTES * i;
-        print_grant(rt, slot, &grants[at..])?;
-        i += 1;
+fn list_grants(
+    rt: &impl Print,
+    slot: Slot,
+    count: u64,
+    grants: &[u8; Flow::MOST * Grant::BYTES],
+) -> io::Result<()> {
+    let (grants, _) = grants.as_chunks::<{ Grant::BYTES }>();
+    for grant in grants.iter().take(count as usize) {
+        print_grant(rt, slot, grant)?;
     }
     Ok(())
 }
@@ -52,14 +49,12 @@ fn list_run(rt: &impl Print, book: &[u8]) -> io::Result<()> {
     let mut area = [0u8; Run::AREA_BYTES];
     let mut grants = [0u8; Flow::MOST * Grant::BYTES];
     start(book, &mut area);
-    let mut slot = Slot(0);
-    while slot.0 < SLOTS {
+    for slot in 0..SLOTS {
         let answer = advance(book, &mut area, &mut grants);
         if answer.code != 0 {
             return print_refusal(rt, answer);
         }
-        list_grants(rt, slot, answer.number, &grants)?;
-        slot = Slot(slot.0 + 1);
+        list_grants(rt, Slot(slot), answer.number, &grants)?;
     }
     Ok(())
 }
@@ -77,8 +72,7 @@ pub fn list(rt: &impl Print, book: &[u8]) -> io::Result<()> {
         return print_refusal(rt, bounded);
     }
     let f = opened.frame;
-    let bounds = checked.bounds;
     print_book(rt, f.nodes, f.flows)?;
-    list_bounds(rt, f.flows, records_of(book, f), &bounds)?;
+    list_bounds(rt, f.flows, records_of(book, f), &checked.bounds)?;
     list_run(rt, book)
 }

@@ -9,18 +9,14 @@ mod reasons;
 mod words;
 
 use listing::input::read_full;
-use listing::lines::print;
 use std::io;
-use words::Asked;
 
 // Only the bytes that fill the buffer count.
 fn main(rt: HostRuntime) -> io::Result<()> {
+    let Some(slots) = words::question(&rt) else {
+        return println!(rt; "USAGE planner why [SLOTS] <BOOK");
+    };
     let mut buffer = [0u8; 4096];
-    match words::question(&rt) {
-        Asked::Why(slots) => {
-            let n = read_full(&mut rt.reader(), &mut buffer)?;
-            reasons::tell(&rt, &buffer[..n], slots)
-        }
-        Asked::Nothing => print(&rt, b"USAGE planner why [SLOTS] <BOOK\n"),
-    }
+    let n = read_full(&mut rt.reader(), &mut buffer)?;
+    reasons::tell(&rt, &buffer[..n], slots)
 }

@@ -1,37 +1,27 @@
-// What a request hands over, taken from standard input. Where the input ends too soon, `came` is false.
-ghost use Rattle.std.specs.Prelude.{◌≡◌, ◌≤◌, take, length, IfOk};
+// What a request hands over, taken from standard input; none where the input ends too soon.
+ghost use Rattle.std.specs.Prelude.{◌≡◌, ◌≤◌, take, length, IfOk, IfSome};
 
 use listing::input::read_full;
-use numbers::numbers::{WORDS, long_at, word_at};
 use sections::records::record_at;
 use std::io;
 use std::io::Read;
 use table::table::Table;
 use trade::{Flow, Node, Plan};
 
-#[derive(Drop)]
-pub(crate) struct Handed {
-    pub came: bool,
-    pub table: Table,
+#[derive(Clone, Copy)]
+pub(crate) enum Call {
+    Read,
+    Write,
+    Add,
+    Remove,
+    Check,
+    CheckTable,
 }
 
 #[derive(Drop)]
 pub(crate) struct Newcomer {
-    pub came: bool,
     pub flow: Flow,
     pub plan: [u8; Plan::MOST * Plan::STEP_BYTES],
-}
-
-#[derive(Drop)]
-pub(crate) struct Place {
-    pub came: bool,
-    pub at: usize,
-}
-
-#[derive(Drop)]
-pub(crate) struct Part {
-    pub came: bool,
-    pub len: usize,
 }
 
 // Whether the next bytes fill all of a part.
@@ -40,37 +30,40 @@ fn fills(reader: &mut impl Read, part: &mut [u8]) -> io::Result<bool> {
     Ok(n == part.len())
 }
 
-// The call, 0 at the end of the input.
-pub(crate) fn next_call(reader: &mut impl Read) -> io::Result<u8> {
+// The call; none at the end of the input, and where the byte is of no call.
+pub(crate) fn next_call(reader: &mut impl Read) -> io::Result<Option<Call>> {
     let mut call = [0u8; 1];
     if !fills(reader, &mut call)? {
-        return Ok(0);
+        return Ok(None);
     }
-    Ok(call[0])
+    Ok(match call[0] {
+        1 => Some(Call::Read),
+        2 => Some(Call::Write),
+        3 => Some(Call::Add),
+        4 => Some(Call::Remove),
+        5 => Some(Call::Check),
+        6 => Some(Call::CheckTable),
+        _ => None,
+    })
 }
 
-// A slice or a buffer, put at the front of a room that takes the longest. Where the input can't be read, what has been put there by then stays.
-pub(crate) fn next_part(reader: &mut impl Read, room: &mut [u8]) -> io::Result<Part>
-    ensures counts { IfOk result (λ part. (part.len ≤ length room.new) × (part.len ≡ length (take part.len room.new))) }
+// The length of a slice or a buffer, put at the front of a room that takes the longest. Where the input can't be read, what has been put
+// there by then stays.
+pub(crate) fn next_part(reader: &mut impl Read, room: &mut [u8]) -> io::Result<Option<usize>>
+    ensures counts { IfOk result (λ part. IfSome part (λ len. (len ≤ length room.new) × (len ≡ length (take len room.new)))) }
     ensures room_kept { length room.new ≡ length room.old }
 {
     let mut word = [0u8; 2];
     let said = fills(reader, &mut word)?;
-    let len = word_at(&word, 0) as usize;
+    let len = usize::from(u16::from_be_bytes(word));
     if room.len() < len {
-        return Ok(Part {
-            came: false,
-            len: 0,
-        });
+        return Ok(None);
     }
     let filled = fills(reader, &mut room[..len])?;
-    Ok(Part {
-        came: said & filled,
-        len,
-    })
+    Ok((said & filled).then_some(len))
 }
 
-pub(crate) fn next_table(reader: &mut impl Read) -> io::Result<Handed> {
+pub(crate) fn next_table(reader: &mut impl Read) -> io::Result<Option<Table>> {
     let mut counts = [0u8; 2];
     let mut rows = [0u8; Node::MOST * Node::ROW_BYTES];
     let mut records = [0u8; Flow::MOST * Flow::RECORD_BYTES];
@@ -81,38 +74,27 @@ pub(crate) fn next_table(reader: &mut impl Read) -> io::Result<Handed> {
         & fills(reader, &mut records)?
         & fills(reader, &mut steps)?
         & fills(reader, &mut figures)?;
-    Ok(Handed {
-        came,
-        table: Table {
-            nodes: counts[0],
-            flows: counts[1],
-            rows,
-            records,
-            steps,
-            figures,
-        },
-    })
+    let [nodes, flows] = counts;
+    Ok(came.then_some(Table {
+        nodes,
+        flows,
+        rows,
+        records,
+        steps,
+        figures,
+    }))
 }
 
-pub(crate) fn next_place(reader: &mut impl Read) -> io::Result<Place> {
+pub(crate) fn next_place(reader: &mut impl Read) -> io::Result<Option<usize>> {
     let mut place = [0u8; 8];
     let came = fills(reader, &mut place)?;
-    let high = long_at(&place, 0) as usize;
-    let low = long_at(&place, 4) as usize;
-    let words = WORDS as usize;
-    Ok(Place {
-        came,
-        at: high * words * words + low,
-    })
+    Ok(came.then_some(usize::from_be_bytes(place)))
 }
 
-pub(crate) fn next_newcomer(reader: &mut impl Read) -> io::Result<Newcomer> {
+pub(crate) fn next_newcomer(reader: &mut impl Read) -> io::Result<Option<Newcomer>> {
     let mut record = [0u8; Flow::RECORD_BYTES];
     let mut plan = [0u8; Plan::MOST * Plan::STEP_BYTES];
     let came = fills(reader, &mut record)? & fills(reader, &mut plan)?;
-    Ok(Newcomer {
-        came,
-        flow: record_at(&record, 0),
-        plan,
-    })
+    let flow = record_at(&record, 0);
+    Ok(came.then_some(Newcomer { flow, plan }))
 }

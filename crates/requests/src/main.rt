@@ -22,6 +22,8 @@ mod output;
 
 use bounds::acceptance::check;
 use changes::change::{add, remove};
+use input::{Call, next_call, next_newcomer, next_part, next_place, next_table};
+use output::{put_answer, put_checked, put_returned};
 use std::io;
 use std::io::Read;
 use table::checked::check_table;
@@ -32,97 +34,88 @@ use table::written::write;
 const MOST: u64 = 1_000_000;
 
 fn answer_read(rt: &impl Print, reader: &mut impl Read, room: &mut [u8]) -> io::Result<bool> {
-    let slice = input::next_part(reader, room)?;
-    if !slice.came {
+    let Some(len) = next_part(reader, room)? else {
         return Ok(false);
-    }
-    let len = slice.len;
+    };
     let got = read(&room[..len]);
-    output::put_answer(rt, got.answer)?;
-    output::put_table(rt, got.table)?;
+    put_returned(rt, got.answer, got.table)?;
     Ok(true)
 }
 
 fn answer_write(rt: &impl Print, reader: &mut impl Read, room: &mut [u8]) -> io::Result<bool> {
-    let handed = input::next_table(reader)?;
-    let buffer = input::next_part(reader, room)?;
-    if !(handed.came & buffer.came) {
+    let table = next_table(reader)?;
+    let buffer = next_part(reader, room)?;
+    let (Some(table), Some(len)) = (table, buffer) else {
         return Ok(false);
-    }
-    let len = buffer.len;
-    let answer = write(handed.table, &mut room[..len]);
-    output::put_answer(rt, answer)?;
-    output::put(rt, &room[..len])?;
+    };
+    let buffer = &mut room[..len];
+    let answer = write(table, buffer);
+    put_answer(rt, answer)?;
+    rt.write_all(buffer)?;
     Ok(true)
 }
 
 fn answer_add(rt: &impl Print, reader: &mut impl Read) -> io::Result<bool> {
-    let handed = input::next_table(reader)?;
-    let place = input::next_place(reader)?;
-    let newcomer = input::next_newcomer(reader)?;
-    if !(handed.came & place.came & newcomer.came) {
+    let table = next_table(reader)?;
+    let place = next_place(reader)?;
+    let newcomer = next_newcomer(reader)?;
+    let (Some(table), Some(place), Some(newcomer)) = (table, place, newcomer) else {
         return Ok(false);
-    }
-    let plan = newcomer.plan;
-    let changed = add(handed.table, place.at, newcomer.flow, plan);
-    output::put_answer(rt, changed.answer)?;
-    output::put_table(rt, changed.table)?;
+    };
+    let changed = add(table, place, newcomer.flow, newcomer.plan);
+    put_returned(rt, changed.answer, changed.table)?;
     Ok(true)
 }
 
 fn answer_remove(rt: &impl Print, reader: &mut impl Read) -> io::Result<bool> {
-    let handed = input::next_table(reader)?;
-    let place = input::next_place(reader)?;
-    if !(handed.came & place.came) {
+    let table = next_table(reader)?;
+    let place = next_place(reader)?;
+    let (Some(table), Some(place)) = (table, place) else {
         return Ok(false);
-    }
-    let changed = remove(handed.table, place.at);
-    output::put_answer(rt, changed.answer)?;
-    output::put_table(rt, changed.table)?;
+    };
+    let changed = remove(table, place);
+    put_returned(rt, changed.answer, changed.table)?;
     Ok(true)
 }
 
 fn answer_check(rt: &impl Print, reader: &mut impl Read, room: &mut [u8]) -> io::Result<bool> {
-    let slice = input::next_part(reader, room)?;
-    if !slice.came {
+    let Some(len) = next_part(reader, room)? else {
         return Ok(false);
-    }
-    let len = slice.len;
-    output::put_checked(rt, check(&room[..len]))?;
+    };
+    put_checked(rt, check(&room[..len]))?;
     Ok(true)
 }
 
 fn answer_check_table(rt: &impl Print, reader: &mut impl Read) -> io::Result<bool> {
-    let handed = input::next_table(reader)?;
-    if !handed.came {
+    let Some(table) = next_table(reader)? else {
         return Ok(false);
-    }
-    output::put_checked(rt, check_table(handed.table))?;
+    };
+    put_checked(rt, check_table(table))?;
     Ok(true)
 }
 
 // Whether the next request came whole, and is answered.
 fn answer_next(rt: &impl Print, reader: &mut impl Read, room: &mut [u8]) -> io::Result<bool> {
-    match input::next_call(reader)? {
-        1 => answer_read(rt, reader, room),
-        2 => answer_write(rt, reader, room),
-        3 => answer_add(rt, reader),
-        4 => answer_remove(rt, reader),
-        5 => answer_check(rt, reader, room),
-        6 => answer_check_table(rt, reader),
-        _ => Ok(false),
+    let Some(call) = next_call(reader)? else {
+        return Ok(false);
+    };
+    match call {
+        Call::Read => answer_read(rt, reader, room),
+        Call::Write => answer_write(rt, reader, room),
+        Call::Add => answer_add(rt, reader),
+        Call::Remove => answer_remove(rt, reader),
+        Call::Check => answer_check(rt, reader, room),
+        Call::CheckTable => answer_check_table(rt, reader),
     }
 }
 
 fn main(rt: HostRuntime) -> io::Result<()> {
     let mut reader = rt.reader();
     let mut room = [0u8; 65536];
-    let mut i = 0;
-    while i < MOST {
+    for _ in 0..MOST {
         if !answer_next(&rt, &mut reader, &mut room)? {
-            return Ok(());
+            break;
         }
-        i += 1;
     }
     Ok(())
 }

@@ -11,7 +11,8 @@ ghost use Rattle.figures.specs.Rises.{lane_at, rise_at, over, Shifts, Says, Low,
 
 use std::num::wrapping_add_u64;
 
-// The bits of the rises.
+// The bits of the rises. Each has its name, and no place in an array: the steps of a carry read them one after the other, so a loop over
+// them would be no plainer.
 #[derive(Clone, Copy)]
 pub(crate) struct Rises {
     pub ones: u64,
@@ -72,9 +73,7 @@ pub(crate) fn worked_out(words: &[u64], count: usize, ends: u64) -> Rises
         sixteens: ends,
         thirties: ends,
     };
-    let mut j = count;
-    while j > 0 {
-        j -= 1;
+    for j in (0..count).rev() {
         line = worked(line, words[j]);
     }
     line

@@ -1,16 +1,9 @@
 -- `figures::lanes::lay` sets the marks of each step into its word. The loop's invariant: those of the first j steps are set. Assumes
 -- nothing.
-use Rattle.std.proofs.Common.{◌≡◌, ◌<◌, length, add-one, arith}
+use Rattle.std.proofs.Common.{◌≡◌, add-one, arith}
 use Rattle.plans.specs.Plan.{steps_in}
 use Rattle.figures.proofs.LanesLaws.{laying_more, laying_all}
 use Rattle.figures.proofs.lanes.lay.Goals as goal
-use Rattle.figures.proofs.lanes.lay.Goals.{In-loop-j}
-
--- each step of the plan has its word
-inside : (c : In-loop-j) → c.loop-j.j < length c.loop-j.words
-inside c =
-    let loop = c.loop-j in
-    omega (arith, loop.invariant.0, loop.invariant.1.size, c.requires.1.short, c.requires.2)
 
 pub loop-j-preserved : goal.loop-j-preserved
 loop-j-preserved c =
@@ -18,7 +11,7 @@ loop-j-preserved c =
     rw (add-one loop.j) (
       loop.invariant.0,
       laying_more c.args.columns.now c.args.h.now c.args.at loop.j c.marks_of-marks.result c.args.words.now loop.words
-          (inside (goal.at.loop-j-preserved c).In-loop-j) c.requires.3 (rw c.step_at.ensures at c.marks_of-marks.ensures) loop.invariant.1,
+          (omega (arith, loop.invariant.0, loop.invariant.1.size, c.requires.1.short, c.requires.2)) c.requires.3 (rw c.step_at.ensures at c.marks_of-marks.ensures) loop.invariant.1,
     )
 
 pub returns : goal.returns

@@ -1,5 +1,5 @@
 -- `square::carried::pairs_at` works the line of the flow out, and then the figure of it for each flow below. The loop's invariant: the
--- pairs up to l are there. The measure is how many flows are left. Assumes nothing.
+-- pairs up to l are there. Assumes nothing.
 use Prim.Native.Nat.{ℕ, ◌+◌}
 use mathlib.Core.Path.{◌≡◌, refl, sym, ◌∙◌}
 use native.Mathlib.Omega.{arith}
@@ -30,16 +30,10 @@ figures_at-pairs-requires c =
       most_nodes_in_bounds = (omega (arith, heard.size), all_heard a.flows a.place a.rows.now a.records.now a.steps.now _ c.requires.0 c.requires.1 heard);
     }
 
-pub overflow_add-l : goal.overflow_add-l
-overflow_add-l c = omega (arith, c.requires.1, c.requires.0.most)
-
 pub loop-l-init : goal.loop-l-init
 loop-l-init c =
-    let a = c.args in (
-      omega arith,
-      omega (arith, c.requires.1),
-      c.figures_at-pairs.ensures ∙ pairs_begun a.flows (facts_in 0 0 a.rows.now a.records.now a.steps.now) a.place c.requires.0.most c.requires.1,
-    )
+    let a = c.args in
+    c.figures_at-pairs.ensures ∙ pairs_begun a.flows (facts_in 0 0 a.rows.now a.records.now a.steps.now) a.place c.requires.0.most c.requires.1
 
 pub slice_bounds-figure_at-end : goal.slice_bounds-figure_at-end
 slice_bounds-figure_at-end c = sym c.hear_above.ensures.size
@@ -51,7 +45,7 @@ figure_at-requires c =
     let heard = c.hear_above.ensures in record {
       formed = (
         formed_less (l + 1) a.flows a.rows.now a.records.now a.steps.now (omega (arith, c.loop-l-test.true)) c.requires.0,
-        omega (arith, c.loop-l.invariant.0),
+        omega arith,
       );
       most_nodes_in_bounds = (omega (arith, heard.size), all_heard a.flows l a.rows.now a.records.now a.steps.now _ c.requires.0 c.loop-l-test.true heard);
     }
@@ -60,21 +54,15 @@ pub loop-l-preserved : goal.loop-l-preserved
 loop-l-preserved c =
     let a = c.args in
     let loop = c.loop-l in
-    let f : Facts = facts_in 0 0 a.rows.now a.records.now a.steps.now in (
-      omega (arith, loop.invariant.0),
-      omega (arith, c.loop-l-test.true),
-      rw (c.figure_at.ensures, ← pair_below a.flows f a.place c.requires.0.most c.requires.1 loop.l loop.invariant.0, loop.invariant.2)
-          (filled_more most_flows (pair_in f a.place) loop.l (omega (arith, c.loop-l-test.true, c.requires.0.most))),
-    )
+    let f : Facts = facts_in 0 0 a.rows.now a.records.now a.steps.now in
+    rw (c.figure_at.ensures, ← pair_below a.flows f a.place c.requires.0.most c.requires.1 loop.l (omega arith), loop.invariant)
+    (filled_more most_flows (pair_in f a.place) loop.l (omega (arith, c.loop-l-test.true, c.requires.0.most)))
 
 pub returns : goal.returns
 returns c =
     let loop = c.loop-l in
-    let all : loop.l ≡ c.args.flows = omega (arith, loop.invariant.1, c.loop-l-test.false) in
-    rw (← all) loop.invariant.2
+    let all : loop.l ≡ c.args.flows = omega (arith, c.requires.1) in
+    rw (← all) loop.invariant
 
 pub bounds-pairs-l : goal.bounds-pairs-l
 bounds-pairs-l c = omega (arith, c.loop-l-test.true, c.requires.0.most)
-
-pub overflow_add-l-in-loop-l : goal.overflow_add-l-in-loop-l
-overflow_add-l-in-loop-l c = omega (arith, c.loop-l-test.true, c.requires.0.most)

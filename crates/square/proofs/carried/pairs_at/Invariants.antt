@@ -1,6 +1,5 @@
 -- `square::carried::pairs_at` works the line of the flow out, and then the figure of it for each flow below. The loop's invariant: the
--- pairs up to l are there. The measure is how many flows are left. Assumes nothing.
-use Prim.Native.Nat.{◌-◌, ◌<◌, ◌≤◌}
+-- pairs up to l are there. Assumes nothing.
 use mathlib.Core.Path.{◌≡◌}
 use Rattle.trade.specs.Limits.{most_flows}
 use Rattle.trade.specs.Facts.{facts_in}
@@ -9,8 +8,4 @@ use Rattle.square.specs.Carried.{pair_in}
 use Rattle.square.proofs.carried.pairs_at.Given as goal
 
 abbrev pub invariant-loop-l : goal.invariant-loop-l
-invariant-loop-l l =
-    (l.place < l.l) × (l.l ≤ l.flows) × (l.pairs ≡ filled most_flows (pair_in (facts_in 0 0 l.rows l.records l.steps) l.place) l.l)
-
-abbrev pub decreases-loop-l : goal.decreases-loop-l
-decreases-loop-l l = l.flows - l.l
+invariant-loop-l l = l.pairs ≡ filled most_flows (pair_in (facts_in 0 0 l.rows l.records l.steps) l.place) l.l

@@ -11,8 +11,8 @@ use Rattle.std.specs.List.{list_all, zip}
 use Rattle.std.proofs.Common.{rules}
 use Rattle.std.proofs.lemmas.List.{places}
 use lib.Dec.{eqb, ltb}
-use lib.ListN.{length, get_or, set, take, drop, length-set}
-use lib.Seq.{ext_get_or, get_or-set_same, get_or-set_other}
+use lib.ListN.{length, get_or, take, drop}
+use lib.Seq.{ext_get_or}
 use Rattle.trade.specs.Limits.{most_flows}
 use Rattle.trade.specs.First.{some}
 use Rattle.trade.specs.Layout.{sections}
@@ -40,38 +40,12 @@ shifted_most cut ahead back h =
     ⊎_elim (λ (l : h < cut). omega (arith, shifted_below cut ahead back h l)) (λ (l : cut ≤ h). omega (arith, shifted_past cut ahead back h l))
     (lt_or_ge h cut)
 
--- A LINE put up to a figure: none yet, and one more
+-- A LINE put up to a figure
 pub record PutTo (l n : ℕ) (line before after : List ℕ) : Type 0 where
   pub size : length after ≡ length before
   pub here : (h : ℕ) → h < n → get_or after (most_flows * l + h) 0 ≡ get_or line h 0
   pub below : (k : ℕ) → k < most_flows * l → get_or after k 0 ≡ get_or before k 0
   pub past : (k : ℕ) → most_flows * l + n ≤ k → get_or after k 0 ≡ get_or before k 0
-
-module _ (l : ℕ) (line before : List ℕ) where
-  pub put_none : PutTo l 0 line before before
-  put_none = record { size = refl; here = λ h p. absurd (omega arith); below = λ k p. refl; past = λ k p. refl }
-
-  pub put_more :
-      (n : ℕ) (after : List ℕ)
-      → most_flows * l + n < length after
-      → PutTo l n line before after
-      → PutTo l (n + 1) line before (set after (most_flows * l + n) (get_or line n 0))
-  put_more n after fits s =
-      record {
-        size = length-set after (most_flows * l + n) (get_or line n 0) ∙ s.size;
-        here = λ h p. ⊎_elim (λ (q : h < n). other (most_flows * l + h) (λ e. omega arith) ∙ s.here h q) (λ (q : n ≤ h). new h (omega arith)) (lt_or_ge h n);
-        below = λ k p. other k (λ e. omega arith) ∙ s.below k p;
-        past = λ k p. other k (λ e. omega arith) ∙ s.past k (omega arith);
-      }
-    where
-      other : (k : ℕ) → (k ≡ most_flows * l + n → ⊥) → get_or (set after (most_flows * l + n) (get_or line n 0)) k 0 ≡ get_or after k 0
-      other k d = get_or-set_other after (most_flows * l + n) k (get_or line n 0) 0 d
-
-      new : (h : ℕ) → h ≡ n → get_or (set after (most_flows * l + n) (get_or line n 0)) (most_flows * l + h) 0 ≡ get_or line h 0
-      new h e = rw e (get_or-set_same after (most_flows * l + n) (get_or line n 0) 0 fits)
-
-  pub put_all : (after : List ℕ) → PutTo l most_flows line before after → LinePut l line before after
-  put_all after s = record { size = s.size; here = s.here; below = s.below; past = s.past }
 
 -- a line is put in one way
 pub put_one : {l : ℕ} {line before after other : List ℕ} → LinePut l line before after → LinePut l line before other → after ≡ other

@@ -2,27 +2,17 @@
 -- those above are as they were. Assumes nothing.
 use Prim.Native.Nat.{ℕ, ◌+◌, ◌-◌}
 use mathlib.Core.Path.{◌≡◌, refl, sym, ◌∙◌, ap}
-use mathlib.Core.Bool.{Bool, true, false, not, ◌&&◌}
+use mathlib.Core.Bool.{Bool, not, ◌&&◌}
 use native.Mathlib.Omega.{arith}
 use borrow.Author.Tests.{lt-ltb, le-ltb}
 use lib.Dec.{ltb}
 use Rattle.trade.specs.Limits.{most_flows}
 use Rattle.square.specs.Carried.{figure_with, with_figures}
 use Rattle.figures.proofs.Padded.{filled}
-use Rattle.square.proofs.KeptLaws.{line_bytes, lines_none, lines_more, lines_all, one_more, unused}
+use Rattle.square.proofs.KeptLaws.{line_bytes, lines_more, lines_all, one_more, unused}
 use Rattle.square.proofs.CarriedLaws.{with_bytes, with_in}
 use Rattle.square.proofs.carried.figures_in.Goals as goal
 use Rattle.square.proofs.carried.figures_in.Goals.{After-line_with-line}
-
-neither : (b : Bool) → (b && not b) ≡ false
-neither true = refl
-neither false = refl
-
-pub loop-l-init : goal.loop-l-init
-loop-l-init c = lines_none _ _ _ c.requires.0 (λ j h. neither (ltb j c.min-used.result))
-
-pub line_with-line-requires : goal.line_with-line-requires
-line_with-line-requires c = (c.loop-l.invariant.size, omega (arith, c.min-used.ensures))
 
 -- the line that is read is the one of before
 line : (c : After-line_with-line) → c.line_with-line.result ≡ filled most_flows (figure_with c.args.place c.args.pairs.now c.args.figures.now (c.loop-l.l - 1)) (c.loop-l.l - 1)
@@ -56,9 +46,6 @@ loop-l-preserved c =
     (omega (arith, c.min-used.ensures)) (line (goal.at.loop-l-preserved c).After-line_with-line) c.put_line.ensures
     (rw (lt-ltb l n (omega arith), le-ltb l l (omega arith)) refl)
     (λ j d. ap (λ (b : Bool). ltb j n && not b) (sym (one_more l j d) ∙ ap (ltb j) (sym one))) loop.invariant
-
-pub clear_from-requires : goal.clear_from-requires
-clear_from-requires c = (c.loop-l.invariant.size, omega (arith, c.min-used.ensures))
 
 pub returns : goal.returns
 unfolding with_figures

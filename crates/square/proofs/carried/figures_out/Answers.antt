@@ -9,16 +9,10 @@ use Rattle.trade.specs.Kept.{figure_in}
 use Rattle.trade.specs.Exchange.{before_out}
 use Rattle.square.specs.Carried.{without_figures}
 use Rattle.figures.proofs.Padded.{filled}
-use Rattle.square.proofs.KeptLaws.{line_bytes, lines_none, lines_more, lines_all, one_more, unused}
+use Rattle.square.proofs.KeptLaws.{line_bytes, lines_more, lines_all, one_more, unused}
 use Rattle.square.proofs.CarriedLaws.{figure_out, left_left}
 use Rattle.square.proofs.carried.figures_out.Goals as goal
 use Rattle.square.proofs.carried.figures_out.Goals.{After-line_without-line}
-
-pub loop-l-init : goal.loop-l-init
-loop-l-init c = lines_none _ _ _ c.requires.1 (λ j h. le-ltb j 0 (omega arith))
-
-pub line_without-line-requires : goal.line_without-line-requires
-line_without-line-requires c = (c.loop-l.invariant.size, omega (arith, c.requires.0))
 
 -- the line that is read is the one of before
 line : (c : After-line_without-line) → c.line_without-line.result ≡ filled most_flows (figure_out c.args.place c.args.figures.now c.loop-l.l) c.loop-l.l
@@ -47,9 +41,6 @@ loop-l-preserved c =
     lines_more a.flows (figure_out a.place a.figures.now) _ (λ j. ltb j loop.l)
     (λ j. ltb j (loop.l + 1)) loop.l _ loop.figures _ (omega arith) (line (goal.at.loop-l-preserved c).After-line_without-line) c.put_line.ensures
     (lt-ltb loop.l (loop.l + 1) (omega arith)) (one_more loop.l) loop.invariant
-
-pub clear_from-requires : goal.clear_from-requires
-clear_from-requires c = (c.loop-l.invariant.size, omega (arith, c.requires.0))
 
 pub returns : goal.returns
 unfolding without_figures

@@ -1,7 +1,7 @@
 -- `square::carried::pairs_at` works the line of the flow out, and then the figure of it for each flow below. The loop's invariant: the
 -- pairs up to l are there. Assumes nothing.
 use Prim.Native.Nat.{ℕ, ◌+◌}
-use mathlib.Core.Path.{◌≡◌, refl, sym, ◌∙◌}
+use mathlib.Core.Path.{refl, ◌∙◌}
 use native.Mathlib.Omega.{arith}
 use Rattle.trade.specs.Limits.{most_flows}
 use Rattle.trade.specs.Facts.{Facts, facts_in}
@@ -19,9 +19,6 @@ hear_above-requires c = record {
   heard_len = (refl, λ y h. zeros 64 y);
 }
 
-pub slice_bounds-figures_at-end : goal.slice_bounds-figures_at-end
-slice_bounds-figures_at-end c = sym c.hear_above.ensures.size
-
 pub figures_at-pairs-requires : goal.figures_at-pairs-requires
 figures_at-pairs-requires c =
     let a = c.args in
@@ -34,9 +31,6 @@ pub loop-l-init : goal.loop-l-init
 loop-l-init c =
     let a = c.args in
     c.figures_at-pairs.ensures ∙ pairs_begun a.flows (facts_in 0 0 a.rows.now a.records.now a.steps.now) a.place c.requires.0.most c.requires.1
-
-pub slice_bounds-figure_at-end : goal.slice_bounds-figure_at-end
-slice_bounds-figure_at-end c = sym c.hear_above.ensures.size
 
 pub figure_at-requires : goal.figure_at-requires
 figure_at-requires c =
@@ -57,12 +51,3 @@ loop-l-preserved c =
     let f : Facts = facts_in 0 0 a.rows.now a.records.now a.steps.now in
     rw (c.figure_at.ensures, ← pair_below a.flows f a.place c.requires.0.most c.requires.1 loop.l (omega arith), loop.invariant)
     (filled_more most_flows (pair_in f a.place) loop.l (omega (arith, c.loop-l-test.true, c.requires.0.most)))
-
-pub returns : goal.returns
-returns c =
-    let loop = c.loop-l in
-    let all : loop.l ≡ c.args.flows = omega (arith, c.requires.1) in
-    rw (← all) loop.invariant
-
-pub bounds-pairs-l : goal.bounds-pairs-l
-bounds-pairs-l c = omega (arith, c.loop-l-test.true, c.requires.0.most)

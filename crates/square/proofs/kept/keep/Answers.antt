@@ -1,15 +1,15 @@
 -- `square::kept::keep` puts line by line. The loop's invariant: the first l lines hold their figures. Assumes nothing.
 use Prim.Native.Nat.{◌+◌}
-use mathlib.Core.Path.{◌≡◌, refl, sym, ◌∙◌}
+use mathlib.Core.Path.{◌≡◌, refl, ◌∙◌}
 use native.Mathlib.Omega.{arith}
-use borrow.Author.Tests.{lt-ltb, le-ltb}
+use borrow.Author.Tests.{lt-ltb}
 use lib.Dec.{ltb}
 use Rattle.trade.specs.Facts.{facts_in}
 use Rattle.trade.specs.Interference.{interference}
 use Rattle.sections.proofs.FormedLaws.{formed_less}
 use Rattle.pairs.proofs.SpreadLaws.{zeros}
 use Rattle.figures.proofs.FiguresLaws.{all_heard}
-use Rattle.square.proofs.KeptLaws.{lines_none, lines_more, lines_all, one_more, unused, figures_square, figures_bytes}
+use Rattle.square.proofs.KeptLaws.{lines_more, lines_all, one_more, unused, figures_square, figures_bytes}
 use Rattle.square.proofs.kept.keep.Goals as goal
 
 pub hear_above-requires : goal.hear_above-requires
@@ -17,12 +17,6 @@ hear_above-requires c = record {
   formed = c.requires.0;
   heard_len = (refl, λ y h. zeros 64 y);
 }
-
-pub loop-l-init : goal.loop-l-init
-loop-l-init c = lines_none _ _ _ c.requires.1 (λ j h. le-ltb j 0 (omega arith))
-
-pub slice_bounds-figures_at-end : goal.slice_bounds-figures_at-end
-slice_bounds-figures_at-end c = sym c.hear_above.ensures.size
 
 pub figures_at-line-requires : goal.figures_at-line-requires
 figures_at-line-requires c =
@@ -50,9 +44,6 @@ loop-l-preserved c =
     let loop = c.loop-l in
     lines_more a.flows (interference (facts_in 0 0 a.rows.now a.records.now a.steps.now)) _ (λ j. ltb j loop.l) (λ j. ltb j (loop.l + 1)) loop.l _
     loop.figures _ (omega arith) c.figures_at-line.ensures c.put_line.ensures (lt-ltb loop.l (loop.l + 1) (omega arith)) (one_more loop.l) loop.invariant
-
-pub clear_from-requires : goal.clear_from-requires
-clear_from-requires c = (c.loop-l.invariant.size, c.requires.0.most)
 
 pub returns : goal.returns
 returns c =

@@ -1,6 +1,6 @@
 -- `square::kept::line_from` reads figure by figure. The loop's invariant: the figures up to h are read. Assumes nothing.
 use Prim.Native.Nat.{ℕ, ◌+◌, ◌*◌, ◌<◌}
-use mathlib.Core.Path.{◌≡◌, sym}
+use mathlib.Core.Path.{sym}
 use native.Mathlib.Omega.{arith}
 use Rattle.trade.specs.Limits.{most_flows}
 use Rattle.trade.specs.Kept.{figure_in}
@@ -32,9 +32,3 @@ loop-h-preserved c =
     let a = c.args in
     let loop = c.loop-h in
     rw (loop.invariant, c.shift.ensures) (filled_more most_flows (from a.figures.now a.line a.cut a.ahead a.back) loop.h (omega (arith, c.requires.2)))
-
-pub returns : goal.returns
-returns c =
-    let a = c.args in
-    let all : c.loop-h.h ≡ a.count = omega arith in
-    rw (← all) c.loop-h.invariant

@@ -1,5 +1,4 @@
--- Plans laid into lanes: one step more of a plan, one plan more, what the words then hold, and the figures read at the ends. Leans on
--- RisesLaws. Assumes nothing.
+-- Plans laid into lanes: one step more of a plan, one plan more, and what the words then hold. Leans on RisesLaws. Assumes nothing.
 use Rattle.std.proofs.Common.{◌≡◌, ℕ, suc, ◌+◌, ◌-◌, ◌*◌, ◌%◌, ◌^◌, ◌<◌, ◌≤◌, Bool, true, false, ◌&&◌, ◌||◌, eqb, ltb, List, length, get_or, set, sym, refl, ap, ◌∙◌, ⊎_elim, arith, length-set, get_or-set_other, get_or-set_same, pow_pos, le-ltb, lt-ltb, eq-eqb, ne_eqb}
 use lib.Bits.{bit_or}
 use Rattle.trade.specs.Limits.{most_steps, most_id}
@@ -14,9 +13,8 @@ use Rattle.plans.specs.Plan.{steps_in}
 use Rattle.pairs.specs.Columns.{marked_at, Narrow, matrix_by}
 use Rattle.sections.specs.Formed.{plan_start, plan_at}
 use Rattle.figures.specs.Figures.{Asked}
-use Rattle.figures.specs.Rises.{lane_at, rise_at, Ends, Marks}
-use Rattle.figures.specs.Lanes.{laid_mark, LaidAt, Laid, GroupedTo, ReadOut}
-use Rattle.figures.specs.declared.rises.Rises.{Rises}
+use Rattle.figures.specs.Rises.{lane_at, Ends, Marks}
+use Rattle.figures.specs.Lanes.{laid_mark, LaidAt, Laid, GroupedTo}
 use Rattle.figures.specs.declared.lanes.Group.{Group}
 use Rattle.pairs.proofs.PathLaws.{columns_behind}
 use Rattle.figures.proofs.RisesLaws.{low_bit, lane_later}
@@ -212,35 +210,10 @@ lane_figure columns n plans k count h =
     columns_behind (matrix_by columns n (plans k)) (lane_matrix columns n plans k) n (steps_in (plans k)) count h
     (λ i j p q. rw (lt-ltb j (steps_in (plans k)) q) refl) (λ i j q. rw (le-ltb j (steps_in (plans k)) q) refl)
 
--- THE FIGURES read at the ends
+-- WHERE the lane after one begins
 pub lane_on : (n k : ℕ) → lane_at n (suc k) ≡ lane_at n k + suc n
 unfolding lane_at
 lane_on n k = refl
-
-module _ (line : Rises) (n first : ℕ) (before : List ℕ) where
-  pub read_none : ReadOut line n first first before before
-  read_none = record { size = refl; read = λ h l m. absurd (omega arith); below = λ h l. refl; past = λ h l. refl }
-
-  pub read_more :
-      (h v : ℕ) (after : List ℕ)
-      → first ≤ h
-      → h < length after
-      → rise_at line (lane_at n (h - first) + n) + v ≡ 63
-      → ReadOut line n first h before after
-      → ReadOut line n first (suc h) before (set after h v)
-  read_more h v after f l e r =
-      record {
-        size = length-set after h v ∙ r.size;
-        read = λ x p q. ⊎_elim (λ (m : x < h). rw (other x (λ z. omega arith)) (r.read x p m)) (λ (m : h ≤ x). here x (omega arith)) (lt_or_ge x h);
-        below = λ x p. other x (λ z. omega arith) ∙ r.below x p;
-        past = λ x p. other x (λ z. omega arith) ∙ r.past x (omega arith);
-      }
-    where
-      other : (x : ℕ) → (x ≡ h → ⊥) → get_or (set after h v) x 0 ≡ get_or after x 0
-      other x d = get_or-set_other after h x v 0 d
-
-      here : (x : ℕ) → x ≡ h → rise_at line (lane_at n (x - first) + n) + get_or (set after h v) x 0 ≡ 63
-      here x q = rw (q, get_or-set_same after h v 0 l) e
 
 -- A GROUP OF FLOWS: none yet, and one more
 module _ (columns : List ℕ) (n : ℕ) (records steps : List ℕ) (first l : ℕ) where

@@ -496,7 +496,7 @@ pub record Words (line : Rises) : Type 0 where
   pub sixteens : line.sixteens < 2 ^ 64
   pub thirties : line.thirties < 2 ^ 64
 
-pub rising_fits : (line : Rises) → Words line → rising_in line < 2 ^ 64
+rising_fits : (line : Rises) → Words line → rising_in line < 2 ^ 64
 rising_fits line w =
     or_lt 64 _ _ (or_lt 64 _ _ (or_lt 64 _ _ (or_lt 64 _ _ (or_lt 64 _ _ w.ones w.twos) w.fours) w.eights) w.sixteens) w.thirties
 

@@ -1,6 +1,6 @@
 // Plans above a flow, laid side by side into words: a lane for each, and in the j-th word the steps of the flow that the j-th step of each
 // plan conflicts with.
-ghost use Rattle.std.specs.Prelude.{◌≡◌, ℕ, ◌+◌, ◌-◌, ◌*◌, ◌<◌, ◌≤◌, max, ◌&&◌, length, nat_lt, slice_index};
+ghost use Rattle.std.specs.Prelude.{◌≡◌, ℕ, ◌+◌, ◌-◌, ◌*◌, ◌<◌, ◌≤◌, ◌&&◌, length, nat_lt, slice_index};
 ghost use Rattle.trade.specs.Limits.{record_bytes, most_flows, most_nodes, most_steps, most_id};
 ghost use Rattle.plans.specs.Plan.{steps_in};
 ghost use Rattle.pairs.specs.Columns.{Narrow};
@@ -29,20 +29,11 @@ fn lay(columns: &[u64], h: &[u8], at: usize, words: &mut [u64]) -> usize
     ensures { (result ≡ steps_in h.now) × ((n : ℕ) → n ≤ most_steps → Narrow n columns.now → at + n < 64 → LaidAt columns.now n h.now at words.old words.new) }
 {
     let len = step_count(h);
-    let mut j = 0;
-    while j < len {
+    for j in 0..len {
         let marks = marks_of(columns, step_at(h, j)) as u64;
-        words[j] = words[j] | (marks << at);
-        j += 1;
+        words[j] |= marks << at;
     }
     len
-}
-
-// The longer of two lengths.
-fn longer(a: usize, b: usize) -> usize
-    ensures { result ≡ max a b }
-{
-    if a < b { b } else { a }
 }
 
 // Whether a flow is left, and room for one more lane.
@@ -83,7 +74,7 @@ pub(crate) fn lay_group(
             next: laid.next + 1,
             start: laid.start + len,
             ends: laid.ends | (1 << (at + width)),
-            longest: longer(laid.longest, count),
+            longest: laid.longest.max(count),
         };
         at += width + 1;
     }
@@ -96,10 +87,8 @@ pub(crate) fn read_out(line: Rises, width: usize, first: usize, until: usize, fi
     ensures { ReadOut line width first until figures.old figures.new }
 {
     let mut end = width;
-    let mut h = first;
-    while h < until {
-        figures[h] = taken(line, end);
+    for figure in &mut figures[first..until] {
+        *figure = taken(line, end);
         end += width + 1;
-        h += 1;
     }
 }

@@ -9,9 +9,8 @@ ghost use Rattle.trade.specs.Bytes.{bit};
 ghost use Rattle.trade.specs.Interference.{Matrix, worst_path};
 ghost use Rattle.figures.specs.Rises.{lane_at, rise_at, over, Shifts, Says, Low, Unmarked, Ends, Marks};
 
-use std::num::wrapping_add_u64;
-
-// The bits of the rises.
+// The bits of the rises. Each has its name, and no place in an array: the steps of a carry read them one after the other, so a loop over
+// them would be no plainer.
 #[derive(Clone, Copy)]
 pub(crate) struct Rises {
     pub ones: u64,
@@ -21,9 +20,6 @@ pub(crate) struct Rises {
     pub sixteens: u64,
     pub thirties: u64,
 }
-
-// Every place.
-const ALL: u64 = 18_446_744_073_709_551_615;
 
 // The rises, one more at some places and one less at others. What is carried from bit to bit goes up where it was set, and down where it was
 // not.
@@ -52,8 +48,8 @@ fn worked(line: Rises, marks: u64) -> Rises
     ensures { (n lanes : ℕ) (W : ℕ → ℕ → ℕ) → lane_at n lanes ≤ 64 → Low n lanes W → Unmarked n lanes marks → Says n lanes line W → Says n lanes result (λ k. over (W k) (λ b. bit marks (lane_at n k + b))) }
 {
     let rising = line.ones | line.twos | line.fours | line.eights | line.sixteens | line.thirties;
-    let through = marks | (ALL - rising);
-    let sum = wrapping_add_u64(through, marks);
+    let through = marks | !rising;
+    let sum = through.wrapping_add(marks);
     let up = marks & (marks ^ sum);
     let down = sum & (sum ^ through);
     shifted(line, up, down)
@@ -72,9 +68,7 @@ pub(crate) fn worked_out(words: &[u64], count: usize, ends: u64) -> Rises
         sixteens: ends,
         thirties: ends,
     };
-    let mut j = count;
-    while j > 0 {
-        j -= 1;
+    for j in (0..count).rev() {
         line = worked(line, words[j]);
     }
     line

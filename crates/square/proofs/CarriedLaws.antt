@@ -20,9 +20,9 @@ use Rattle.trade.proofs.Taken.{out_below, out_past, out_most}
 use Rattle.sections.specs.Formed.{Formed}
 use Rattle.figures.proofs.FiguresLaws.{interference_most}
 use Rattle.trade.specs.Exchange.{before_out}
-use Rattle.square.specs.Carried.{shifted, line_from, before_in, OldFigures, pair_in, pairs_of, figure_with, with_figures, in_line, out_line}
-use Rattle.figures.proofs.Padded.{filled, filled_none, filled_at, filled_behind, filled_zero, filled_same, filled_set}
-use Rattle.square.proofs.KeptLaws.{shifted_below, shifted_past, line_used, line_unused, line_same, used, Lines, line_left, figures_square}
+use Rattle.square.specs.Carried.{shifted, line_from, before_in, OldFigures, pair_in, pairs_of, figure_with, with_figures}
+use Rattle.figures.proofs.Padded.{filled, filled_at, filled_behind, filled_zero, filled_same, filled_set}
+use Rattle.square.proofs.KeptLaws.{shifted_below, shifted_past, used, Lines, line_left, figures_square}
 
 -- A FLOW COMES IN: where another stood before
 in_below : (place i : ℕ) → i < place → before_in place i ≡ i
@@ -123,12 +123,13 @@ with_left F place pairs old put figures l h s m p t =
     (t (before_in place l) (in_most place l)))
 
 pub with_in :
-    (F : ℕ → ℕ → ℕ) (flows place : ℕ) (pairs old : List ℕ) (put : ℕ → Bool) (figures : List ℕ) (l : ℕ)
+    (F : ℕ → ℕ → ℕ) (place : ℕ) (pairs old : List ℕ) (put : ℕ → Bool) (figures : List ℕ) (l : ℕ)
     → Lines F old put figures
     → l < most_flows
     → ((j : ℕ) → j ≤ l → put j ≡ false)
-    → in_line flows place pairs figures l ≡ in_line flows place pairs old l
-with_in F flows place pairs old put figures l s m t = line_same flows l _ _ m (λ h p. with_left F place pairs old put figures l h s m p t)
+    → filled most_flows (figure_with place pairs figures l) l ≡ filled most_flows (figure_with place pairs old l) l
+with_in F place pairs old put figures l s m t =
+    filled_same most_flows _ _ l (omega arith) (λ h p. with_left F place pairs old put figures l h s m p t)
 
 -- THE PAIRS of a flow with each other are its figures
 module _ (flows : ℕ) (f : Facts) (place : ℕ) (most : flows ≤ most_flows) (there : place < flows) where
@@ -216,34 +217,31 @@ shifted_out place h =
     ⊎_elim (λ (l : h < place). shifted_below place 1 0 h l ∙ sym (out_below place h l))
     (λ (l : place ≤ h). omega (arith, shifted_past place 1 0 h l, out_past place h l)) (lt_or_ge h place)
 
-module _ (flows place : ℕ) (old : List ℕ) (most : flows ≤ most_flows) (l : ℕ) (there : l < flows) where
-  pub left_above : l < place → line_from old l l most_flows 0 0 ≡ out_line flows place old l
+-- the figure of two flows that are left, and their line
+abbrev pub figure_out : ℕ → List ℕ → ℕ → ℕ → ℕ
+figure_out place old l h = figure_in old (before_out place l) (before_out place h)
+
+module _ (place : ℕ) (old : List ℕ) (l : ℕ) (most : l < most_flows) where
+  pub left_above : l < place → line_from old l l most_flows 0 0 ≡ filled most_flows (figure_out place old l) l
   left_above p =
-      filled_same most_flows _ (λ h. figure_in old (before_out place l) (before_out place h)) l (omega arith)
+      filled_same most_flows _ (figure_out place old l) l (omega arith)
       (λ h q.
       ap₂ (figure_in old) (sym (out_below place l p)) (shifted_below most_flows 0 0 h (omega arith) ∙ sym (out_below place h (omega arith))))
-      ∙ sym (line_used flows l _ there)
 
-  pub left_below : place ≤ l → line_from old (l + 1) l place 1 0 ≡ out_line flows place old l
+  pub left_below : place ≤ l → line_from old (l + 1) l place 1 0 ≡ filled most_flows (figure_out place old l) l
   left_below p =
       let on : l + 1 ≡ before_out place l = omega (arith, out_past place l p) in
-      filled_same most_flows _ (λ h. figure_in old (before_out place l) (before_out place h)) l (omega arith)
-      (λ h q. ap₂ (figure_in old) on (shifted_out place h))
-      ∙ sym (line_used flows l _ there)
+      filled_same most_flows _ (figure_out place old l) l (omega arith) (λ h q. ap₂ (figure_in old) on (shifted_out place h))
 
 -- read from figures whose lines from l on are as they were
 pub left_left :
-    (F : ℕ → ℕ → ℕ) (flows place : ℕ) (old : List ℕ) (put : ℕ → Bool) (figures : List ℕ) (l : ℕ)
+    (F : ℕ → ℕ → ℕ) (place : ℕ) (old : List ℕ) (put : ℕ → Bool) (figures : List ℕ) (l : ℕ)
     → Lines F old put figures
-    → flows < most_flows
+    → l + 1 < most_flows
     → ((j : ℕ) → l ≤ j → put j ≡ false)
-    → out_line flows place figures l ≡ out_line flows place old l
-left_left F flows place old put figures l s most t =
-    ⊎_elim
-    (λ (p : l < flows).
-    line_same flows l _ _ (omega arith)
+    → filled most_flows (figure_out place figures l) l ≡ filled most_flows (figure_out place old l) l
+left_left F place old put figures l s most t =
+    filled_same most_flows _ _ l (omega arith)
     (λ h q.
     line_left F old put figures (before_out place l) (before_out place h) s (omega (arith, out_most place l)) (omega (arith, out_most place h))
-    (t (before_out place l) (out_least place l))))
-    (λ (p : flows ≤ l). line_unused flows l _ p ∙ filled_none most_flows _ ∙ sym (line_unused flows l _ p ∙ filled_none most_flows _))
-    (lt_or_ge l flows)
+    (t (before_out place l) (out_least place l)))

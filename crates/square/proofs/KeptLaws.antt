@@ -1,27 +1,30 @@
 -- Figures put line by line: where a line's figures are read, a line put figure by figure, and lines put one after the other, which make a
 -- square. Leans on the trade's Kept and on Padded. Assumes nothing.
-use Prim.Native.Nat.{ℕ, ◌+◌, ◌-◌, ◌*◌, ◌/◌, ◌%◌, ◌≤◌, ◌<◌}
-use mathlib.Core.Path.{◌≡◌, refl, sym, ◌∙◌, ap}
-use mathlib.Core.Bool.{Bool, true, false, not, cond, ◌&&◌}
+use Prim.Native.Nat.{ℕ, zero, suc, ◌+◌, ◌-◌, ◌*◌, ◌/◌, ◌%◌, ◌≤◌, ◌<◌}
+use mathlib.Core.Path.{◌≡◌, refl, sym, ◌∙◌, ap, ap₂}
+use mathlib.Core.Bool.{Bool, true, false, not, cond, ◌&&◌, and-false}
 use mathlib.Core.Logic.{⊎_elim}
-use mathlib.Core.List.{List}
+use mathlib.Core.List.{List, [], ◌∷◌}
 use native.Mathlib.Omega.{arith}
-use borrow.Author.Tests.{eqb-true, eqb-false, lt-ltb, le-ltb}
+use borrow.Author.Tests.{eqb-true, eqb-false, lt-ltb, le-ltb, not-true, not-false}
+use Rattle.std.specs.List.{list_all, zip}
+use Rattle.std.proofs.Common.{rules}
+use Rattle.std.proofs.lemmas.List.{places}
 use lib.Dec.{eqb, ltb}
-use lib.ListN.{length, get_or, set, length-set}
-use lib.Seq.{ext_get_or, get_or-set_same, get_or-set_other}
+use lib.ListN.{length, get_or, take, drop}
+use lib.Seq.{ext_get_or}
 use Rattle.trade.specs.Limits.{most_flows}
 use Rattle.trade.specs.First.{some}
 use Rattle.trade.specs.Layout.{sections}
 use Rattle.trade.specs.Facts.{facts_in, facts_of, first_step, step_of}
 use Rattle.trade.specs.Interference.{matrix, interference}
 use Rattle.trade.specs.Kept.{figures_room, figure_in, square, figures_of, wrong_line}
-use Rattle.trade.proofs.First.{not_both, bool_cases, lt_or_ge, some_cong}
+use Rattle.trade.proofs.First.{not_both, bool_cases, lt_or_ge, some_cong, some_true, some_false}
 use Rattle.trade.proofs.Kept.{square_held}
 use Rattle.sections.specs.Formed.{Formed}
-use Rattle.square.specs.Carried.{shifted, line_of, LinePut}
+use Rattle.square.specs.Carried.{shifted, LinePut, Cleared}
 use Rattle.figures.proofs.FiguresLaws.{interference_most}
-use Rattle.figures.proofs.Padded.{filled, filled_at, filled_behind, filled_same}
+use Rattle.figures.proofs.Padded.{filled, filled_at, filled_behind}
 
 -- WHERE a figure is read: below the cut at its place, any other ahead and back
 pub shifted_below : (cut ahead back h : ℕ) → h < cut → shifted cut ahead back h ≡ h
@@ -37,38 +40,12 @@ shifted_most cut ahead back h =
     ⊎_elim (λ (l : h < cut). omega (arith, shifted_below cut ahead back h l)) (λ (l : cut ≤ h). omega (arith, shifted_past cut ahead back h l))
     (lt_or_ge h cut)
 
--- A LINE put up to a figure: none yet, and one more
+-- A LINE put up to a figure
 pub record PutTo (l n : ℕ) (line before after : List ℕ) : Type 0 where
   pub size : length after ≡ length before
   pub here : (h : ℕ) → h < n → get_or after (most_flows * l + h) 0 ≡ get_or line h 0
   pub below : (k : ℕ) → k < most_flows * l → get_or after k 0 ≡ get_or before k 0
   pub past : (k : ℕ) → most_flows * l + n ≤ k → get_or after k 0 ≡ get_or before k 0
-
-module _ (l : ℕ) (line before : List ℕ) where
-  pub put_none : PutTo l 0 line before before
-  put_none = record { size = refl; here = λ h p. absurd (omega arith); below = λ k p. refl; past = λ k p. refl }
-
-  pub put_more :
-      (n : ℕ) (after : List ℕ)
-      → most_flows * l + n < length after
-      → PutTo l n line before after
-      → PutTo l (n + 1) line before (set after (most_flows * l + n) (get_or line n 0))
-  put_more n after fits s =
-      record {
-        size = length-set after (most_flows * l + n) (get_or line n 0) ∙ s.size;
-        here = λ h p. ⊎_elim (λ (q : h < n). other (most_flows * l + h) (λ e. omega arith) ∙ s.here h q) (λ (q : n ≤ h). new h (omega arith)) (lt_or_ge h n);
-        below = λ k p. other k (λ e. omega arith) ∙ s.below k p;
-        past = λ k p. other k (λ e. omega arith) ∙ s.past k (omega arith);
-      }
-    where
-      other : (k : ℕ) → (k ≡ most_flows * l + n → ⊥) → get_or (set after (most_flows * l + n) (get_or line n 0)) k 0 ≡ get_or after k 0
-      other k d = get_or-set_other after (most_flows * l + n) k (get_or line n 0) 0 d
-
-      new : (h : ℕ) → h ≡ n → get_or (set after (most_flows * l + n) (get_or line n 0)) (most_flows * l + h) 0 ≡ get_or line h 0
-      new h e = rw e (get_or-set_same after (most_flows * l + n) (get_or line n 0) 0 fits)
-
-  pub put_all : (after : List ℕ) → PutTo l most_flows line before after → LinePut l line before after
-  put_all after s = record { size = s.size; here = s.here; below = s.below; past = s.past }
 
 -- a line is put in one way
 pub put_one : {l : ℕ} {line before after other : List ℕ} → LinePut l line before after → LinePut l line before other → after ≡ other
@@ -84,42 +61,17 @@ put_one {l} {line} {before} {after} {other} p q =
         let place : k ≡ most_flows * l + (k - most_flows * l) = omega arith in
         rw place (p.here (k - most_flows * l) (omega arith) ∙ sym (q.here (k - most_flows * l) (omega arith)))
 
--- THE LINE of a flow, if it is one of so many: its figures, all of them bytes where the figures above it are, and zeros
-abbrev pub line_by : ℕ → ℕ → (ℕ → ℕ) → List ℕ
-line_by flows l figure = filled most_flows figure (cond (ltb l flows) l 0)
-
-module _ (flows l : ℕ) (figure : ℕ → ℕ) where
-  pub line_used : l < flows → line_by flows l figure ≡ filled most_flows figure l
-  line_used p = rw (lt-ltb l flows p) refl
-
-  pub line_unused : flows ≤ l → line_by flows l figure ≡ filled most_flows figure 0
-  line_unused p = rw (le-ltb l flows p) refl
-
-  pub line_figure : (h : ℕ) → get_or (line_by flows l figure) h 0 ≡ cond (ltb l flows && ltb h l) (figure h) 0
+-- THE LINE of one of so many flows: its figures as they stand in a square, all of them bytes where the figures above it are
+module _ (flows l : ℕ) (figure : ℕ → ℕ) (used : l < flows) where
+  pub line_figure : (h : ℕ) → get_or (filled most_flows figure l) h 0 ≡ cond (ltb l flows && ltb h l) (figure h) 0
   line_figure h =
-      ⊎_elim
-      (λ (p : l < flows).
-      ⊎_elim (λ (q : h < l). rw (lt-ltb l flows p, lt-ltb h l q) (filled_at most_flows figure l h q))
-      (λ (q : l ≤ h). rw (lt-ltb l flows p, le-ltb h l q) (filled_behind most_flows figure l h q)) (lt_or_ge h l))
-      (λ (p : flows ≤ l). rw (le-ltb l flows p) (filled_behind most_flows figure 0 h (omega arith))) (lt_or_ge l flows)
+      ⊎_elim (λ (q : h < l). rw (lt-ltb l flows used, lt-ltb h l q) (filled_at most_flows figure l h q))
+      (λ (q : l ≤ h). rw (lt-ltb l flows used, le-ltb h l q) (filled_behind most_flows figure l h q)) (lt_or_ge h l)
 
-  pub line_bytes : (l < flows → (h : ℕ) → h < l → figure h < 256) → (h : ℕ) → get_or (line_by flows l figure) h 0 < 256
-  line_bytes small h =
-      ⊎_elim
-      (λ (p : l < flows).
-      ⊎_elim (λ (q : h < l). rw (line_figure h, lt-ltb l flows p, lt-ltb h l q) (small p h q))
-      (λ (q : l ≤ h). rw (line_figure h, lt-ltb l flows p, le-ltb h l q) (omega arith)) (lt_or_ge h l))
-      (λ (p : flows ≤ l). rw (line_figure h, le-ltb l flows p) (omega arith)) (lt_or_ge l flows)
-
-pub line_same :
-    (flows l : ℕ) (figure other : ℕ → ℕ)
-    → l < most_flows
-    → ((h : ℕ) → h < l → figure h ≡ other h)
-    → line_by flows l figure ≡ line_by flows l other
-line_same flows l figure other m e =
-    ⊎_elim (λ (p : l < flows). line_used flows l figure p ∙ filled_same most_flows figure other l (omega arith) e ∙ sym (line_used flows l other p))
-    (λ (p : flows ≤ l). line_unused flows l figure p ∙ filled_same most_flows figure other 0 (omega arith) (λ h q. absurd (omega arith)) ∙ sym (line_unused flows l other p))
-    (lt_or_ge l flows)
+pub line_bytes : (l : ℕ) (figure : ℕ → ℕ) → ((h : ℕ) → h < l → figure h < 256) → (h : ℕ) → get_or (filled most_flows figure l) h 0 < 256
+line_bytes l figure small h =
+    ⊎_elim (λ (q : h < l). rw (filled_at most_flows figure l h q) (small h q))
+    (λ (q : l ≤ h). rw (filled_behind most_flows figure l h q) (omega arith)) (lt_or_ge h l)
 
 -- LINES put while others are still read: those of a test hold their figures, any other is as it was. None yet, one more, and all
 abbrev pub used : ℕ → (ℕ → ℕ → ℕ) → ℕ → ℕ → ℕ
@@ -140,13 +92,14 @@ lines_none F put figures size none =
 
 pub lines_more :
     (flows : ℕ) (figure : ℕ → ℕ → ℕ) (old : List ℕ) (put more : ℕ → Bool) (l : ℕ) (line before after : List ℕ)
-    → line ≡ line_by flows l (figure l)
+    → l < flows
+    → line ≡ filled most_flows (figure l) l
     → LinePut l line before after
     → more l ≡ true
     → ((j : ℕ) → (j ≡ l → ⊥) → more j ≡ put j)
     → Lines (used flows figure) old put before
     → Lines (used flows figure) old more after
-lines_more flows figure old put more l line before after is p new others s =
+lines_more flows figure old put more l line before after u is p new others s =
     record {
       size = p.size ∙ s.size;
       held =
@@ -169,10 +122,26 @@ lines_more flows figure old put more l line before after is p new others s =
         let place : k ≡ most_flows * l + k % most_flows = omega arith in
         ap (λ (i : ℕ). get_or after i 0) place
         ∙ p.here (k % most_flows) (omega arith)
-        ∙ rw (is, e) (line_figure flows l (figure l) (k % most_flows))
+        ∙ rw (is, e) (line_figure flows l (figure l) u (k % most_flows))
 
-pub lines_all : (F : ℕ → ℕ → ℕ) (old : List ℕ) (put : ℕ → Bool) (figures : List ℕ) → ((j : ℕ) → j < most_flows → put j ≡ true) → Lines F old put figures → figures ≡ square F
-lines_all F old put figures all s = square_held F figures s.size (λ k h. s.held k (omega arith) (all (k / most_flows) (omega arith)))
+-- all that are used, with zeros in the others
+pub lines_all :
+    (F : ℕ → ℕ → ℕ) (old : List ℕ) (put : ℕ → Bool) (n : ℕ) (before after : List ℕ)
+    → ((j : ℕ) → j < n → put j ≡ true)
+    → ((l h : ℕ) → n ≤ l → l < most_flows → F l h ≡ 0)
+    → Cleared n before after
+    → Lines F old put before
+    → after ≡ square F
+lines_all F old put n before after all none c s =
+    square_held F after (c.size ∙ s.size)
+    (λ k h.
+    ⊎_elim (λ (p : k / most_flows < n). c.above k (omega arith) ∙ s.held k (omega arith) (all (k / most_flows) p))
+    (λ (p : n ≤ k / most_flows). c.past k (omega arith) ∙ sym (none (k / most_flows) (k % most_flows) p (omega arith)))
+    (lt_or_ge (k / most_flows) n))
+
+-- a figure of no flow
+pub unused : (flows : ℕ) (figure : ℕ → ℕ → ℕ) (l h : ℕ) → flows ≤ l → used flows figure l h ≡ 0
+unused flows figure l h p = rw (le-ltb l flows p) refl
 
 -- a figure of a line that was not put is the one it was
 pub line_left :
@@ -202,10 +171,12 @@ figures_square flows rows records steps = refl
 pub figures_bytes :
     (flows : ℕ) (rows records steps : List ℕ)
     → Formed flows rows records steps
-    → (l h : ℕ)
-    → get_or (line_of flows (facts_in 0 0 rows records steps) l) h 0 < 256
-figures_bytes flows rows records steps f l h =
-    line_bytes flows l _ (λ p k q. omega (arith, interference_most records rows steps l k, (f.fields k (omega arith)).len.1)) h
+    → (l : ℕ)
+    → l < flows
+    → (h : ℕ)
+    → get_or (filled most_flows (interference (facts_in 0 0 rows records steps) l) l) h 0 < 256
+figures_bytes flows rows records steps f l u h =
+    line_bytes l _ (λ k q. omega (arith, interference_most records rows steps l k, (f.fields k (omega arith)).len.1)) h
 
 -- a line of figures is wrong where it is not the one that is worked out
 pub wrong_line_lem :
@@ -215,3 +186,51 @@ pub wrong_line_lem :
 unfolding wrong_line facts_of interference matrix step_of first_step
 wrong_line_lem flows rows records steps figures l =
     some_cong _ _ l (λ h p. ap (λ (v : ℕ). not (eqb (figure_in figures l h) v)) (filled_at most_flows (interference (facts_in 0 0 rows records steps) l) l h p))
+
+-- TWO LISTS side by side: all pairs are the same exactly where no figure of the second is another
+abbrev pub all_same : List ℕ → List ℕ → Bool
+all_same xs ys = list_all (λ (p : ℕ × ℕ). eqb p.0 p.1) (zip xs ys)
+
+abbrev pub other : List ℕ → List ℕ → ℕ → Bool
+other xs ys h = not (eqb (get_or xs h 0) (get_or ys h 0))
+
+none_other : (xs ys : List ℕ) → length ys ≤ length xs → ((h : ℕ) → h < length ys → other xs ys h ≡ false) → all_same xs ys ≡ true
+none_other [] [] l e = refl
+none_other [] (y ∷ ys) l e = absurd (omega arith)
+none_other (x ∷ xs) [] l e = refl
+none_other (x ∷ xs) (y ∷ ys) l e =
+    rw (not-false (eqb x y) (e 0 (omega arith))) (none_other xs ys (omega arith) (λ h b. e (suc h) (omega arith)))
+
+one_other : (xs ys : List ℕ) (h : ℕ) → h < length ys → length ys ≤ length xs → other xs ys h ≡ true → all_same xs ys ≡ false
+one_other xs [] h b l e = absurd (omega arith)
+one_other [] (y ∷ ys) h b l e = absurd (omega arith)
+one_other (x ∷ xs) (y ∷ ys) zero b l e = rw (not-true (eqb x y) e) refl
+one_other (x ∷ xs) (y ∷ ys) (suc h) b l e = rw (one_other xs ys h (omega arith) (omega arith) e) (and-false (eqb x y))
+
+all_same_lem : (xs ys : List ℕ) → length ys ≤ length xs → all_same xs ys ≡ not (some (other xs ys) (length ys))
+all_same_lem xs ys l =
+    ⊎_elim (λ (e : some (other xs ys) (length ys) ≡ true). let at = some_true _ _ e in rw e (one_other xs ys _ at.0 l at.1))
+    (λ (e : some (other xs ys) (length ys) ≡ false). rw e (none_other xs ys l (some_false _ _ e))) (bool_cases (some (other xs ys) (length ys)))
+
+-- so the figures of a line are looked at beside what is worked out
+abbrev pub from_line : List ℕ → ℕ → List ℕ
+from_line figures l = take (length figures - most_flows * l) (drop (most_flows * l) figures)
+
+pub line_same :
+    (figures line : List ℕ) (l : ℕ)
+    → length figures ≡ figures_room
+    → length line ≡ most_flows
+    → l < most_flows
+    → all_same (from_line figures l) (take l line) ≡ not (some (λ h. not (eqb (figure_in figures l h) (get_or line h 0))) l)
+unfolding figure_in
+line_same figures line l f m u =
+    let n : length (take l line) ≡ l = search (rules, places) in
+    let room : length (from_line figures l) ≡ length figures - most_flows * l = search (rules, places) in
+    all_same_lem (from_line figures l) (take l line) (omega arith)
+    ∙ rw n
+    (ap not
+    (some_cong _ _ l
+    (λ h b.
+    let here : get_or (from_line figures l) h 0 ≡ get_or figures (most_flows * l + h) 0 = search (rules, places) in
+    let there : get_or (take l line) h 0 ≡ get_or line h 0 = search (rules, places) in
+    ap₂ (λ (x y : ℕ). not (eqb x y)) here there)))

@@ -28,6 +28,12 @@ pub record LinePut (l : ℕ) (line before after : List ℕ) : Type 0 where
   pub below : (k : ℕ) → k < most_flows * l → get_or after k 0 ≡ get_or before k 0
   pub past : (k : ℕ) → most_flows * l + most_flows ≤ k → get_or after k 0 ≡ get_or before k 0
 
+-- zeros put in the lines from one on, and those above as they were
+pub record Cleared (l : ℕ) (before after : List ℕ) : Type 0 where
+  pub size : length after ≡ length before
+  pub above : (k : ℕ) → k < most_flows * l → get_or after k 0 ≡ get_or before k 0
+  pub past : (k : ℕ) → most_flows * l ≤ k → get_or after k 0 ≡ 0
+
 -- where a flow stood before another came in at a place
 unfoldable pub before_in : ℕ → ℕ → ℕ
 before_in place i = cond (ltb i place) i (i - 1)

@@ -1,14 +1,15 @@
 // The figures of a table carried over a change: those of two flows that stay go with them, and only a newcomer's with each other flow are
 // worked out. They are changed where they lie: a line is read before another is put in its place.
-ghost use Rattle.std.specs.Prelude.{◌≡◌, ℕ, ◌≤◌, ◌<◌, length, get_or};
+ghost use Rattle.std.specs.Prelude.{◌≡◌, ℕ, ◌+◌, ◌≤◌, ◌<◌, length, get_or};
 ghost use Rattle.trade.specs.Limits.{most_flows};
 ghost use Rattle.trade.specs.First.{list_to};
 ghost use Rattle.trade.specs.Bytes.{padded};
 ghost use Rattle.trade.specs.Facts.{facts_in};
-ghost use Rattle.trade.specs.Kept.{figures_room};
-ghost use Rattle.square.specs.Carried.{pairs_of, figure_with, in_line, with_figures, out_line, without_figures};
+ghost use Rattle.trade.specs.Exchange.{before_out};
+ghost use Rattle.trade.specs.Kept.{figures_room, figure_in};
+ghost use Rattle.square.specs.Carried.{pairs_of, figure_with, with_figures, without_figures};
 
-use crate::kept::{line_from, put_line};
+use crate::kept::{clear_from, line_from, put_line};
 use figures::figures::{figure_at, figures_at, hear_above};
 use sections::parts::Parts;
 use trade::{Flow, Node};
@@ -39,11 +40,7 @@ fn front(pairs: &[u32; Flow::MOST], count: usize) -> [u32; Flow::MOST]
     ensures { result ≡ padded most_flows (list_to (λ h. get_or pairs.now h 0) count) }
 {
     let mut line = [0u32; Flow::MOST];
-    let mut h = 0;
-    while h < count {
-        line[h] = pairs[h];
-        h += 1;
-    }
+    line[..count].copy_from_slice(&pairs[..count]);
     line
 }
 
@@ -68,45 +65,26 @@ pub fn line_with(
     line
 }
 
-// The same of so many flows, and zeros where l is none of them.
-fn line_in(
-    flows: usize,
-    place: usize,
-    pairs: &[u32; Flow::MOST],
-    figures: &[u8],
-    l: usize,
-) -> [u32; Flow::MOST]
-    requires { (length figures.now ≡ figures_room) × (l < most_flows) }
-    ensures { result ≡ in_line flows place pairs.now figures.now l }
-{
-    if flows <= l {
-        return [0; Flow::MOST];
-    }
-    line_with(place, pairs, figures, l)
-}
-
 // The figures of all flows where one has come in at a place, and every other zero: from the last line up, since each comes from its own
 // place or the one above.
 pub fn figures_in(flows: usize, place: usize, pairs: &[u32; Flow::MOST], figures: &mut [u8])
     requires { (length figures.old ≡ figures_room) × ((i : ℕ) → get_or pairs.now i 0 < 256) }
     ensures { figures.new ≡ with_figures flows place pairs.now figures.old }
 {
-    let mut l = Flow::MOST;
-    while 0 < l {
-        l -= 1;
-        let line = line_in(flows, place, pairs, figures, l);
+    // A table has no line past its last, however many flows there are.
+    let used = flows.min(Flow::MOST);
+    for l in (0..used).rev() {
+        let line = line_with(place, pairs, figures, l);
         put_line(figures, l, &line);
     }
+    clear_from(figures, used);
 }
 
-// The figures of flow l of those that are left where the one at a place has gone, from those of before.
-fn line_out(flows: usize, place: usize, figures: &[u8], l: usize) -> [u32; Flow::MOST]
-    requires { (flows < most_flows) × (length figures.now ≡ figures_room) }
-    ensures { result ≡ out_line flows place figures.now l }
+// The figures of flow l where the one at a place has gone, from those of before.
+fn line_without(place: usize, figures: &[u8], l: usize) -> [u32; Flow::MOST]
+    requires { (length figures.now ≡ figures_room) × (l + 1 < most_flows) }
+    ensures { result ≡ padded most_flows (list_to (λ h. figure_in figures.now (before_out place l) (before_out place h)) l) }
 {
-    if flows <= l {
-        return [0; Flow::MOST];
-    }
     if l < place {
         return line_from(figures, l, l, Flow::MOST, 0, 0);
     }
@@ -119,10 +97,9 @@ pub fn figures_out(flows: usize, place: usize, figures: &mut [u8])
     requires { (flows < most_flows) × (length figures.old ≡ figures_room) }
     ensures { figures.new ≡ without_figures flows place figures.old }
 {
-    let mut l = 0;
-    while l < Flow::MOST {
-        let line = line_out(flows, place, figures, l);
+    for l in 0..flows {
+        let line = line_without(place, figures, l);
         put_line(figures, l, &line);
-        l += 1;
     }
+    clear_from(figures, flows);
 }

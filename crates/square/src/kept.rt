@@ -1,6 +1,6 @@
 // The figures that a table carries: 32 lines of 32, a byte each; I(l,h) is the h-th of line l.
 ghost use Rattle.std.specs.Prelude.{◌≡◌, not, ℕ, ◌+◌, ◌≤◌, ◌<◌, eqb, length, get_or};
-ghost use Rattle.trade.specs.Limits.{most_flows, most_nodes};
+ghost use Rattle.trade.specs.Limits.{most_flows};
 ghost use Rattle.trade.specs.First.{some};
 ghost use Rattle.trade.specs.Layout.{sections};
 ghost use Rattle.trade.specs.Facts.{facts_in};
@@ -8,7 +8,7 @@ ghost use Rattle.trade.specs.Kept.{figures_room, figure_in, figures_of, code17};
 ghost use Rattle.trade.specs.Refusals.{tested};
 ghost use Rattle.sections.specs.Formed.{Formed};
 ghost use Rattle.figures.specs.Figures.{AllHeard};
-ghost use Rattle.square.specs.Carried.{shifted, line_from, line_of, LinePut};
+ghost use Rattle.square.specs.Carried.{shifted, line_from, LinePut, Cleared};
 
 use figures::figures::{figures_at, hear_above};
 use sections::parts::Parts;
@@ -38,10 +38,8 @@ pub fn line_from(
     ensures { result ≡ line_from figures.now line count cut ahead back }
 {
     let mut read = [0u32; Flow::MOST];
-    let mut h = 0;
-    while h < count {
+    for h in 0..count {
         read[h] = figures[Flow::MOST * line + shift(h, cut, ahead, back)] as u32;
-        h += 1;
     }
     read
 }
@@ -51,30 +49,17 @@ pub fn put_line(figures: &mut [u8], l: usize, line: &[u32; Flow::MOST])
     requires { (length figures.old ≡ figures_room) × (l < most_flows) × ((h : ℕ) → h < most_flows → get_or line.now h 0 < 256) }
     ensures { LinePut l line.now figures.old figures.new }
 {
-    let mut h = 0;
-    while h < Flow::MOST {
-        figures[Flow::MOST * l + h] = line[h] as u8;
-        h += 1;
+    for (h, figure) in line.iter().enumerate() {
+        figures[Flow::MOST * l + h] = *figure as u8;
     }
 }
 
-// The figures of flow l, if it is one of so many; zeros where it is none.
-fn line_at(
-    flows: usize,
-    rows: &[u8],
-    heard: &[u64],
-    records: &[u8],
-    steps: &[u8],
-    l: usize,
-) -> [u32; Flow::MOST]
-    requires formed { Formed flows rows.now records.now steps.now }
-    requires most_nodes_in_bounds { (most_nodes ≤ length heard.now) × (l < flows → AllHeard l rows.now records.now steps.now heard.now) }
-    ensures { result ≡ line_of flows (facts_in 0 0 rows.now records.now steps.now) l }
+// Zeros put in every line from one on.
+pub(crate) fn clear_from(figures: &mut [u8], l: usize)
+    requires { (length figures.old ≡ figures_room) × (l ≤ most_flows) }
+    ensures { Cleared l figures.old figures.new }
 {
-    if l < flows {
-        return figures_at(rows, heard, records, steps, l);
-    }
-    [0; Flow::MOST]
+    figures[Flow::MOST * l..].fill(0);
 }
 
 // The figures of all flows, and every other zero.
@@ -84,12 +69,11 @@ pub fn keep(flows: usize, rows: &[u8], records: &[u8], steps: &[u8], figures: &m
 {
     let mut heard = [0u64; Node::MOST];
     hear_above(flows, rows, records, steps, &mut heard);
-    let mut l = 0;
-    while l < Flow::MOST {
-        let line = line_at(flows, rows, &heard, records, steps, l);
+    for l in 0..flows {
+        let line = figures_at(rows, &heard, records, steps, l);
         put_line(figures, l, &line);
-        l += 1;
     }
+    clear_from(figures, flows);
 }
 
 // Whether the figures of line l that are asked for, those of the flows above it, are these.
@@ -97,14 +81,10 @@ fn is_line(figures: &[u8], l: usize, line: &[u32; Flow::MOST]) -> bool
     requires { (length figures.now ≡ figures_room) × (l < most_flows) }
     ensures { result ≡ not (some (λ h. not (eqb (figure_in figures.now l h) (get_or line.now h 0))) l) }
 {
-    let mut h = 0;
-    while h < l {
-        if figures[Flow::MOST * l + h] as u32 != line[h] {
-            return false;
-        }
-        h += 1;
-    }
-    true
+    figures[Flow::MOST * l..]
+        .iter()
+        .zip(&line[..l])
+        .all(|(kept, figure)| u32::from(*kept) == *figure)
 }
 
 // Code 17: a figure of a flow and one above it is wrong; the first such flow.

@@ -1,23 +1,19 @@
 -- `figures::figures::figures_by` works the figures out, group by group. The loop's invariant: those of the flows above h stand in the array.
 -- The measure is how many flows are left. Assumes nothing.
-use Rattle.std.proofs.Common.{◌≡◌, ℕ, ◌+◌, ◌-◌, List, length, sym, refl, ap, ◌∙◌, arith}
+use Rattle.std.proofs.Common.{◌≡◌, ℕ, ◌+◌, ◌-◌, List, sym, refl, arith}
 use Rattle.trade.specs.Limits.{most_flows}
 use Rattle.trade.specs.First.{sum_to}
 use Rattle.sections.specs.Formed.{plan_at}
 use Rattle.figures.specs.Figures.{figure_by}
 use Rattle.pairs.proofs.SpreadLaws.{zeros}
-use Rattle.figures.proofs.Padded.{filled, length_filled, filled_none}
+use Rattle.figures.proofs.Padded.{filled_none}
 use Rattle.figures.proofs.FiguresLaws.{filled_group}
 use Rattle.figures.proofs.LanesLaws.{lane_matrix, laid_holds, lane_figure}
 use Rattle.figures.proofs.figures.figures_by.Goals as goal
-use Rattle.figures.proofs.figures.figures_by.Goals.{After-figures-1}
 
 pub loop-h-init : goal.loop-h-init
 unfolding sum_to
 loop-h-init c = (omega arith, refl, omega arith, sym (filled_none most_flows _))
-
-pub slice_bounds-lay_group-end : goal.slice_bounds-lay_group-end
-slice_bounds-lay_group-end c = refl
 
 pub lay_group-laid-requires : goal.lay_group-laid-requires
 lay_group-laid-requires c =
@@ -26,31 +22,6 @@ lay_group-laid-requires c =
       start_value = (loop.invariant.1, loop.invariant.2, c.requires.by_index);
       words_len = (refl, λ j. zeros 32 j);
     }
-
-pub slice_bounds-worked_out-end : goal.slice_bounds-worked_out-end
-slice_bounds-worked_out-end c = sym c.lay_group-laid.ensures.all.laid.size
-
-pub worked_out-line-requires : goal.worked_out-line-requires
-worked_out-line-requires c =
-    let g = c.lay_group-laid.ensures.all in (omega (arith, g.laid.size, g.short), g.short)
-
-pub slice_bounds-read_out-end : goal.slice_bounds-read_out-end
-slice_bounds-read_out-end c =
-    let loop = c.loop-h in
-    sym (ap length loop.invariant.3 ∙ length_filled most_flows _ loop.h (omega (arith, c.requires.l_lt_most_flows.0, loop.invariant.0)))
-
-pub read_out-requires : goal.read_out-requires
-read_out-requires c =
-    let g = c.lay_group-laid.ensures.all in (
-      g.from,
-      omega (arith, g.most, c.requires.l_lt_most_flows.0, slice_bounds-read_out-end (goal.at.read_out-requires c).After-figures-1),
-      omega (arith, g.most, c.requires.l_lt_most_flows.0),
-      omega (arith, c.requires.l_lt_most_flows.3),
-      g.room,
-    )
-
-pub loop-h-smaller : goal.loop-h-smaller
-loop-h-smaller c = omega (arith, c.lay_group-laid.ensures.some, c.lay_group-laid.ensures.all.most)
 
 pub loop-h-preserved : goal.loop-h-preserved
 loop-h-preserved c =
@@ -74,9 +45,3 @@ loop-h-preserved c =
           rw (lane_figure a.columns.now a.width plans k laid.result.longest (g.long k (omega arith)), here) at read)
           (rw loop.invariant.3 at c.read_out.ensures),
     )
-
-pub returns : goal.returns
-returns c =
-    let a = c.args in
-    let e : c.loop-h.h ≡ a.l = omega (arith, c.loop-h.invariant.0) in
-    c.loop-h.invariant.3 ∙ ap (filled most_flows (λ (k : ℕ). figure_by a.columns.now a.width (plan_at a.records.now a.steps.now k))) e

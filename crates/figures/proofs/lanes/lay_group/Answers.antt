@@ -21,9 +21,6 @@ loop-len-init c =
           c.requires.words_len.0 c.requires.words_len.1,
     )
 
-pub has_room-requires : goal.has_room-requires
-has_room-requires c = (omega (arith, c.loop-len.invariant.1, c.loop-len.invariant.2.room), omega (arith, c.requires.first_lt_l.4))
-
 -- there is a flow, and room for it
 room :
     (c : In-loop-len)
@@ -31,9 +28,6 @@ room :
     × (c.loop-len.at + c.args.width < 64)
 room c =
     let more = and_true _ _ (sym c.has_room.ensures ∙ c.loop-len-test.true) in (ltb-true _ _ more.0, ltb-true _ _ more.1)
-
-pub len_at-len-requires : goal.len_at-len-requires
-len_at-len-requires c = omega (arith, (room (goal.at.len_at-len-requires c).In-loop-len).0, c.requires.first_lt_l.2)
 
 -- the plan of the next flow
 plan :
@@ -43,38 +37,6 @@ plan :
 plan c =
     c.plan_part.ensures
     ∙ ap₂ (plan_in c.args.steps.now) c.loop-len.invariant.2.start c.len_at-len.ensures.0
-
-pub lay-count-requires : goal.lay-count-requires
-lay-count-requires c =
-    let loop = c.loop-len in (
-      c.requires.first_lt_l.3,
-      rw (plan (goal.at.lay-count-requires c).After-plan_part) (c.requires.start_value.2 loop.laid.next (room (goal.at.lay-count-requires c).In-loop-len).0),
-      omega (arith, loop.invariant.2.laid.size),
-      omega (arith, (room (goal.at.lay-count-requires c).In-loop-len).1),
-    )
-
-pub overflow_add-laid : goal.overflow_add-laid
-overflow_add-laid c = record { fits = omega (arith, (room (goal.at.overflow_add-laid c).In-loop-len).0, c.requires.first_lt_l.1) }
-
-pub overflow_add-laid-in-loop-len : goal.overflow_add-laid-in-loop-len
-overflow_add-laid-in-loop-len c =
-    let loop = c.loop-len in
-    record { fits = omega (arith, loop.invariant.2.steps_most, c.len_at-len.ensures.1, (room (goal.at.overflow_add-laid-in-loop-len c).In-loop-len).0, c.requires.first_lt_l.1) }
-
-pub overflow_add-laid-in-loop-len-2 : goal.overflow_add-laid-in-loop-len-2
-overflow_add-laid-in-loop-len-2 c = record { fits = omega (arith, (room (goal.at.overflow_add-laid-in-loop-len-2 c).In-loop-len).1) }
-
-pub overflow_shl-laid : goal.overflow_shl-laid
-overflow_shl-laid c = omega (arith, (room (goal.at.overflow_shl-laid c).In-loop-len).1)
-
-pub overflow_add-at : goal.overflow_add-at
-overflow_add-at c = record { fits = omega (arith, (room (goal.at.overflow_add-at c).In-loop-len).1) }
-
-pub overflow_add-at-in-loop-len : goal.overflow_add-at-in-loop-len
-overflow_add-at-in-loop-len c = record { fits = omega (arith, (room (goal.at.overflow_add-at-in-loop-len c).In-loop-len).1) }
-
-pub loop-len-smaller : goal.loop-len-smaller
-loop-len-smaller c = omega (arith, (room (goal.at.loop-len-smaller c).In-loop-len).0)
 
 pub loop-len-preserved : goal.loop-len-preserved
 loop-len-preserved c =
@@ -88,10 +50,10 @@ loop-len-preserved c =
     let laid = lay.ensures.1 a.width c.requires.first_lt_l.4 c.requires.first_lt_l.5 (room (goal.at.loop-len-preserved c).In-loop-len).1 in (
       laid.size ∙ loop.invariant.0,
       rw (on, lane_on a.width (loop.laid.next - a.first), loop.invariant.1) (omega arith),
-      grouped_more a.columns.now a.width a.records.now a.steps.now a.first a.l loop.laid c.len_at-len.result _ c.longer.result loop.words
+      grouped_more a.columns.now a.width a.records.now a.steps.now a.first a.l loop.laid c.len_at-len.result _ _ loop.words
           lay.new.words (room (goal.at.loop-len-preserved c).In-loop-len).0 inside c.len_at-len.ensures
           (λ y. rw (loop.invariant.1, one_bit (lane_at a.width (loop.laid.next - a.first) + a.width) inside) (bit_only (lane_at a.width (loop.laid.next - a.first) + a.width) y))
-          (omega (arith, c.longer.ensures), omega (arith, c.longer.ensures, count), omega (arith, c.longer.ensures, count, asked.short, loop.invariant.2.short)) (rw (plan (goal.at.loop-len-preserved c).After-plan_part, loop.invariant.1) at laid) loop.invariant.2,
+          (omega arith, omega (arith, count), omega (arith, count, asked.short, loop.invariant.2.short)) (rw (plan (goal.at.loop-len-preserved c).After-plan_part, loop.invariant.1) at laid) loop.invariant.2,
     )
 
 pub returns : goal.returns

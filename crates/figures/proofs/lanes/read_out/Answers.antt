@@ -1,63 +1,36 @@
--- `figures::lanes::read_out` reads lane by lane. The loop's invariant: the figures up to h are read. The measure is how many are left.
--- Assumes nothing.
-use Rattle.std.proofs.Common.{◌≡◌, ℕ, suc, ◌-◌, add-one, arith}
+-- `figures::lanes::read_out` reads lane by lane. The loop's invariant: the figures passed are read. Assumes nothing.
+use Rattle.std.proofs.Common.{◌≡◌, ℕ, suc, add-one, ◌≢◌, ◌-◌, ◌<◌, length, arith, rules, below_more, get_or-set_other, get_or-set_same}
+use Rattle.std.proofs.lemmas.List.{places}
 use Rattle.figures.specs.Rises.{lane_at}
 use Rattle.figures.proofs.RisesLaws.{lane_later}
-use Rattle.figures.proofs.LanesLaws.{read_none, read_more, lane_on}
+use Rattle.figures.proofs.LanesLaws.{lane_on}
 use Rattle.figures.proofs.lanes.read_out.Goals as goal
-use Rattle.figures.proofs.lanes.read_out.Goals.{After-taken, In-loop-h}
+use Rattle.figures.proofs.lanes.read_out.Goals.{In-loop-figure}
 
-pub loop-h-init : goal.loop-h-init
+pub loop-figure-init : goal.loop-figure-init
 unfolding lane_at
-loop-h-init c =
+loop-figure-init c = search rules
+
+-- each lane that is left to read has its end in the word
+inside : (c : In-loop-figure) → c.loop-figure.end < 64
+inside c =
     let a = c.args in
-    let none : a.first - a.first ≡ 0 = omega arith in
-    (omega arith, c.requires.0, rw none (omega arith), read_none _ _ _ _)
+    let loop = c.loop-figure in
+    let k : ℕ = loop.figure-index in
+    let all : length loop.figure-items ≡ a.until - a.first = search (rules, places) in
+    omega (arith, lane_on a.width k, lane_later a.width (suc k) (a.until - a.first) (omega arith), c.requires.4)
 
 pub taken-requires : goal.taken-requires
-taken-requires c =
-    let a = c.args in
-    let loop = c.loop-h in
-    let k : ℕ = loop.h - a.first in
-    omega (
-      arith,
-      loop.invariant.0,
-      loop.invariant.2,
-      lane_on a.width k,
-      lane_later a.width (suc k) (a.until - a.first) (omega (arith, loop.invariant.0)),
-      c.requires.4,
+taken-requires c = inside (goal.at.taken-requires c).In-loop-figure
+
+pub overflow_add-end-in-loop-figure : goal.overflow_add-end-in-loop-figure
+overflow_add-end-in-loop-figure c = omega (arith, inside (goal.at.overflow_add-end-in-loop-figure c).In-loop-figure, c.requires.3)
+
+pub loop-figure-preserved : goal.loop-figure-preserved
+loop-figure-preserved c =
+    let loop = c.loop-figure in
+    let i : ℕ = loop.figure-index in (
+      rw (add-one i, lane_on c.args.width i) (omega arith),
+      below_more _ _ (λ k l. let ne : k ≢ i = omega arith in rw get_or-set_other (loop.invariant.1 k l))
+          (let l : i < length loop.figure-items = omega arith in rw (get_or-set_same, ← loop.invariant.0) c.taken.ensures),
     )
-
-pub offset_bounds-figures-h : goal.offset_bounds-figures-h
-offset_bounds-figures-h c = record { fits = omega (arith, c.requires.2) }
-
-pub bounds-figures-h : goal.bounds-figures-h
-bounds-figures-h c = omega (arith, c.loop-h.invariant.3.size, c.requires.1)
-
-pub overflow_add-end : goal.overflow_add-end
-overflow_add-end c = record { fits = omega (arith, c.requires.3) }
-
-pub overflow_add-end-in-loop-h : goal.overflow_add-end-in-loop-h
-overflow_add-end-in-loop-h c = record { fits = omega (arith, taken-requires (goal.at.overflow_add-end-in-loop-h c).In-loop-h, c.requires.3) }
-
-pub overflow_add-h : goal.overflow_add-h
-overflow_add-h c = record { fits = omega (arith, c.requires.2) }
-
-pub loop-h-preserved : goal.loop-h-preserved
-loop-h-preserved c =
-    let a = c.args in
-    let loop = c.loop-h in
-    let on : suc loop.h - a.first ≡ suc (loop.h - a.first) = omega (arith, loop.invariant.0) in
-    rw (add-one loop.h) (
-      omega (arith, loop.invariant.0),
-      omega arith,
-      rw (on, lane_on a.width (loop.h - a.first), loop.invariant.2) (omega arith),
-      read_more a.line a.width a.first a.figures.now loop.h c.taken.result loop.figures loop.invariant.0 (bounds-figures-h (goal.at.loop-h-preserved c).After-taken)
-          (rw loop.invariant.2 at c.taken.ensures) loop.invariant.3,
-    )
-
-pub returns : goal.returns
-returns c =
-    let loop = c.loop-h in
-    let all : loop.h ≡ c.args.until = omega (arith, loop.invariant.1) in
-    rw (← all) loop.invariant.3

@@ -1,59 +1,59 @@
--- `square::carried::figures_in` puts line by line, from the last one up. The loop's invariant: the lines from l on hold their figures, and those above
--- are as they were. The measure is how many are left. Assumes nothing.
+-- `square::carried::figures_in` puts line by line, from the last one up. The loop's invariant: the lines from l on hold their figures, and
+-- those above are as they were. Assumes nothing.
 use Prim.Native.Nat.{ℕ, ◌+◌, ◌-◌}
-use mathlib.Core.Path.{◌≡◌, sym, ◌∙◌, ap}
-use mathlib.Core.Bool.{not}
+use mathlib.Core.Path.{◌≡◌, refl, sym, ◌∙◌, ap}
+use mathlib.Core.Bool.{Bool, not, ◌&&◌}
 use native.Mathlib.Omega.{arith}
 use borrow.Author.Tests.{lt-ltb, le-ltb}
 use lib.Dec.{ltb}
 use Rattle.trade.specs.Limits.{most_flows}
-use Rattle.square.specs.Carried.{figure_with, in_line, with_figures}
-use Rattle.square.proofs.KeptLaws.{line_bytes, lines_none, lines_more, lines_all, one_more}
+use Rattle.square.specs.Carried.{figure_with, with_figures}
+use Rattle.figures.proofs.Padded.{filled}
+use Rattle.square.proofs.KeptLaws.{line_bytes, lines_more, lines_all, one_more, unused}
 use Rattle.square.proofs.CarriedLaws.{with_bytes, with_in}
 use Rattle.square.proofs.carried.figures_in.Goals as goal
-use Rattle.square.proofs.carried.figures_in.Goals.{After-line_in-line}
-
-pub loop-l-init : goal.loop-l-init
-loop-l-init c = (omega arith, lines_none _ _ _ c.requires.0 (λ j h. ap not (lt-ltb j most_flows h)))
-
-pub line_in-line-requires : goal.line_in-line-requires
-line_in-line-requires c = (c.loop-l.invariant.1.size, omega (arith, c.loop-l.invariant.0, c.loop-l-test.true))
+use Rattle.square.proofs.carried.figures_in.Goals.{After-line_with-line}
 
 -- the line that is read is the one of before
-line : (c : After-line_in-line) → c.line_in-line.result ≡ in_line c.args.flows c.args.place c.args.pairs.now c.args.figures.now (c.loop-l.l - 1)
+line : (c : After-line_with-line) → c.line_with-line.result ≡ filled most_flows (figure_with c.args.place c.args.pairs.now c.args.figures.now (c.loop-l.l - 1)) (c.loop-l.l - 1)
 line c =
     let a = c.args in
     let loop = c.loop-l in
-    c.line_in-line.ensures
-    ∙ with_in _ a.flows a.place a.pairs.now a.figures.now (λ j. not (ltb j loop.l)) loop.figures (loop.l - 1) loop.invariant.1
-    (omega (arith, loop.invariant.0, c.loop-l-test.true)) (λ j h. ap not (lt-ltb j loop.l (omega (arith, c.loop-l-test.true))))
+    let n : ℕ = c.min-used.result in
+    c.line_with-line.ensures
+    ∙ with_in _ a.place a.pairs.now a.figures.now (λ j. ltb j n && not (ltb j loop.l)) loop.figures (loop.l - 1) loop.invariant
+    (omega (arith, c.min-used.ensures)) (λ j h. rw (lt-ltb j loop.l (omega arith), lt-ltb j n (omega arith)) refl)
 
 pub put_line-requires : goal.put_line-requires
 put_line-requires c =
     let a = c.args in
     let loop = c.loop-l in (
-      loop.invariant.1.size,
-      omega (arith, loop.invariant.0, c.loop-l-test.true),
+      loop.invariant.size,
+      omega (arith, c.min-used.ensures),
       λ h p.
-          rw (line (goal.at.put_line-requires c).After-line_in-line)
-          (line_bytes a.flows (loop.l - 1) _ (λ q k b. with_bytes a.place a.pairs.now a.figures.now c.requires.1 (λ i. omega (arith, c.slice_known-1.given i)) (loop.l - 1) k) h),
+          rw (line (goal.at.put_line-requires c).After-line_with-line)
+          (line_bytes (loop.l - 1) _ (λ k b. with_bytes a.place a.pairs.now a.figures.now c.requires.1 (λ i. omega (arith, c.slice_known-1.given i)) (loop.l - 1) k) h),
     )
 
 pub loop-l-preserved : goal.loop-l-preserved
 loop-l-preserved c =
     let a = c.args in
     let loop = c.loop-l in
+    let n : ℕ = c.min-used.result in
     let l : ℕ = loop.l - 1 in
-    let one : loop.l ≡ l + 1 = omega (arith, c.loop-l-test.true) in (
-      omega (arith, loop.invariant.0),
-      lines_more a.flows (figure_with a.place a.pairs.now a.figures.now) _ (λ j. not (ltb j loop.l)) (λ j. not (ltb j l)) l _ loop.figures _
-          (line (goal.at.loop-l-preserved c).After-line_in-line) c.put_line.ensures (ap not (le-ltb l l (omega arith)))
-          (λ j d. ap not (sym (one_more l j d) ∙ ap (ltb j) (sym one))) loop.invariant.1,
-    )
+    let one : loop.l ≡ l + 1 = omega arith in
+    lines_more a.flows (figure_with a.place a.pairs.now a.figures.now) _ (λ j. ltb j n && not (ltb j loop.l)) (λ j. ltb j n && not (ltb j l)) l _ loop.figures _
+    (omega (arith, c.min-used.ensures)) (line (goal.at.loop-l-preserved c).After-line_with-line) c.put_line.ensures
+    (rw (lt-ltb l n (omega arith), le-ltb l l (omega arith)) refl)
+    (λ j d. ap (λ (b : Bool). ltb j n && not b) (sym (one_more l j d) ∙ ap (ltb j) (sym one))) loop.invariant
 
 pub returns : goal.returns
 unfolding with_figures
 returns c =
+    let a = c.args in
     let loop = c.loop-l in
-    let none : loop.l ≡ 0 = omega (arith, c.loop-l-test.false) in
-    lines_all _ _ _ loop.figures (λ j h. ap not (le-ltb j 0 (omega arith))) (rw none at loop.invariant.1)
+    let n : ℕ = c.min-used.result in
+    let none : loop.l ≡ 0 = omega arith in
+    lines_all _ _ _ n loop.figures _ (λ j h. rw (lt-ltb j n h, le-ltb j 0 (omega arith)) refl)
+    (λ l h p m. unused a.flows (figure_with a.place a.pairs.now a.figures.now) l h (omega (arith, c.min-used.ensures))) c.clear_from.ensures
+    (rw none at loop.invariant)

@@ -1,29 +1,32 @@
--- `square::carried::front` copies figure by figure. The loop's invariant: those up to h are copied. The measure is how many are left.
--- Assumes nothing.
-use Prim.Native.Nat.{ℕ}
-use mathlib.Core.Path.{◌≡◌, sym}
-use lib.ListN.{get_or}
-use native.Mathlib.Omega.{arith}
+-- `square::carried::front` copies the first of the pairs. Assumes nothing.
+use Rattle.std.proofs.Common.{◌≡◌, ℕ, ◌<◌, ◌≤◌, List, refl, length, get_or, drop, take, ◌++◌, sym, ◌∙◌, ⊎_elim, rules, ext_get_or}
+use Rattle.std.proofs.lemmas.List.{places}
 use Rattle.trade.specs.Limits.{most_flows}
-use Rattle.figures.proofs.Padded.{filled_none, filled_more}
+use Rattle.trade.proofs.First.{lt_or_ge}
+use Rattle.pairs.proofs.SpreadLaws.{zeros}
+use Rattle.figures.proofs.Padded.{filled, length_filled, filled_at, filled_behind}
 use Rattle.square.proofs.carried.front.Goals as goal
 
-pub loop-h-init : goal.loop-h-init
-loop-h-init c = (omega arith, sym (filled_none most_flows _))
-
-pub loop-h-preserved : goal.loop-h-preserved
-loop-h-preserved c =
-    let loop = c.loop-h in
-    (omega arith, rw loop.invariant.1 (filled_more most_flows (λ (k : ℕ). get_or c.args.pairs.now k 0) loop.h (omega (arith, c.requires))))
+-- the first of a list, and zeros behind them
+first_of :
+    (pairs blank : List ℕ) (count : ℕ)
+    → length pairs ≡ most_flows
+    → length blank ≡ most_flows
+    → ((k : ℕ) → get_or blank k 0 ≡ 0)
+    → count ≤ most_flows
+    → take count pairs ++ drop count blank ≡ filled most_flows (λ h. get_or pairs h 0) count
+first_of pairs blank count m n none h =
+    ext_get_or 0 _ _ (all ∙ sym (length_filled most_flows _ count h))
+    (λ k b.
+    ⊎_elim
+    (λ (p : k < count).
+    let here : get_or (take count pairs ++ drop count blank) k 0 ≡ get_or pairs k 0 = search (rules, places) in here ∙ sym (filled_at most_flows _ count k p))
+    (λ (p : count ≤ k).
+    let there : get_or (take count pairs ++ drop count blank) k 0 ≡ get_or blank k 0 = search (rules, places) in
+    there ∙ none k ∙ sym (filled_behind most_flows _ count k p)) (lt_or_ge k count))
+  where
+    all : length (take count pairs ++ drop count blank) ≡ most_flows
+    all = search (rules, places)
 
 pub returns : goal.returns
-returns c =
-    let loop = c.loop-h in
-    let all : loop.h ≡ c.args.count = omega (arith, loop.invariant.0) in
-    rw (← all) loop.invariant.1
-
-pub bounds-pairs-h : goal.bounds-pairs-h
-bounds-pairs-h c = omega (arith, c.requires)
-
-pub bounds-line-h : goal.bounds-line-h
-bounds-line-h c = omega (arith, c.requires)
+returns c = rw c.copy_from_slice.ensures.after (first_of c.args.pairs.now _ c.args.count c.told-pairs refl (zeros 32) c.requires)

@@ -1,16 +1,9 @@
--- `square::kept::keep` puts line by line. The loop's invariant: the first l lines hold their figures. The measure is how many are left.
--- Assumes nothing.
-use Prim.Native.Nat.{◌-◌, ◌≤◌}
+-- `square::kept::keep` puts line by line. The loop's invariant: the first l lines hold their figures. Assumes nothing.
 use lib.Dec.{ltb}
-use Rattle.trade.specs.Limits.{most_flows}
 use Rattle.trade.specs.Facts.{facts_in}
 use Rattle.trade.specs.Interference.{interference}
 use Rattle.square.proofs.KeptLaws.{used, Lines}
 use Rattle.square.proofs.kept.keep.Given as goal
 
 abbrev pub invariant-loop-l : goal.invariant-loop-l
-invariant-loop-l l =
-    (l.l ≤ most_flows) × Lines (used l.flows (interference (facts_in 0 0 l.rows l.records l.steps))) l.initial.figures (λ j. ltb j l.l) l.figures
-
-abbrev pub decreases-loop-l : goal.decreases-loop-l
-decreases-loop-l l = most_flows - l.l
+invariant-loop-l l = Lines (used l.flows (interference (facts_in 0 0 l.rows l.records l.steps))) l.initial.figures (λ j. ltb j l.l) l.figures

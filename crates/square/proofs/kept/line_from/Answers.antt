@@ -1,7 +1,6 @@
--- `square::kept::line_from` reads figure by figure. The loop's invariant: the figures up to h are read. The measure is how many are left.
--- Assumes nothing.
+-- `square::kept::line_from` reads figure by figure. The loop's invariant: the figures up to h are read. Assumes nothing.
 use Prim.Native.Nat.{ℕ, ◌+◌, ◌*◌, ◌<◌}
-use mathlib.Core.Path.{◌≡◌, sym}
+use mathlib.Core.Path.{sym}
 use native.Mathlib.Omega.{arith}
 use Rattle.trade.specs.Limits.{most_flows}
 use Rattle.trade.specs.Kept.{figure_in}
@@ -12,7 +11,7 @@ use Rattle.square.proofs.kept.line_from.Invariants.{from}
 use Rattle.square.proofs.kept.line_from.Goals.{After-shift}
 
 pub loop-h-init : goal.loop-h-init
-loop-h-init c = (omega arith, sym (filled_none most_flows _))
+loop-h-init c = sym (filled_none most_flows _)
 
 -- where it stands
 place : (c : After-shift) → most_flows * c.args.line + c.shift.result < 1024
@@ -27,20 +26,9 @@ overflow_add-read c = record { fits = omega (arith, place (goal.at.overflow_add-
 pub bounds-figures-line : goal.bounds-figures-line
 bounds-figures-line c = omega (arith, place (goal.at.bounds-figures-line c).After-shift, c.requires.0)
 
-pub bounds-read-h : goal.bounds-read-h
-bounds-read-h c = omega (arith, c.requires.2)
-
 pub loop-h-preserved : goal.loop-h-preserved
 unfolding figure_in
 loop-h-preserved c =
     let a = c.args in
-    let loop = c.loop-h in (
-      omega arith,
-      rw (loop.invariant.1, c.shift.ensures) (filled_more most_flows (from a.figures.now a.line a.cut a.ahead a.back) loop.h (omega (arith, c.requires.2))),
-    )
-
-pub returns : goal.returns
-returns c =
-    let a = c.args in
-    let all : c.loop-h.h ≡ a.count = omega (arith, c.loop-h.invariant.0) in
-    rw (← all) c.loop-h.invariant.1
+    let loop = c.loop-h in
+    rw (loop.invariant, c.shift.ensures) (filled_more most_flows (from a.figures.now a.line a.cut a.ahead a.back) loop.h (omega (arith, c.requires.2)))

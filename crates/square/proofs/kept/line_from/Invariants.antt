@@ -1,6 +1,5 @@
--- `square::kept::line_from` reads figure by figure. The loop's invariant: the figures up to h are read. The measure is how many are left.
--- Assumes nothing.
-use Prim.Native.Nat.{ℕ, ◌-◌, ◌≤◌}
+-- `square::kept::line_from` reads figure by figure. The loop's invariant: the figures up to h are read. Assumes nothing.
+use Prim.Native.Nat.{ℕ}
 use mathlib.Core.Path.{◌≡◌}
 use mathlib.Core.List.{List}
 use Rattle.trade.specs.Limits.{most_flows}
@@ -14,7 +13,4 @@ abbrev pub from : List ℕ → ℕ → ℕ → ℕ → ℕ → ℕ → ℕ
 from figures line cut ahead back h = figure_in figures line (shifted cut ahead back h)
 
 abbrev pub invariant-loop-h : goal.invariant-loop-h
-invariant-loop-h l = (l.h ≤ l.count) × (l.read ≡ filled most_flows (from l.figures l.line l.cut l.ahead l.back) l.h)
-
-abbrev pub decreases-loop-h : goal.decreases-loop-h
-decreases-loop-h l = l.count - l.h
+invariant-loop-h l = l.read ≡ filled most_flows (from l.figures l.line l.cut l.ahead l.back) l.h

@@ -15,17 +15,17 @@ use Rattle.run.proofs.advance.run_slot.Goals.{In_ok-due}
 -- the run that was read is answered as the area's, and passes
 passed :
     (c : In_ok-due)
-    → (slot_answer (facts_in 0 c.args.flows c.args.rows.now c.args.records.now c.args.steps.now) c.args.area.now).code ≡ 0
+    → (slot_answer (facts_in 0 c.args.parts.flows c.args.parts.rows.now c.args.parts.records.now c.args.parts.steps.now) c.args.area.now).code ≡ 0
 passed c =
     let a = c.args in
     sym
     (ap (λ (r : Answer). r.code)
     (ap tested (sym (c.in_ok-due.was)) ∙ c.due_in-due.ensures.answer
-    ∙ read_answer a.flows a.rows.now a.records.now a.steps.now a.area.now c.requires.0.most c.read_run.result c.read_run.ensures))
+    ∙ read_answer a.parts.flows a.parts.rows.now a.parts.records.now a.parts.steps.now a.area.now c.args.parts.formed.most c.read_run.result c.read_run.ensures))
 
 pub due_in-due-requires : goal.due_in-due-requires
 due_in-due-requires c =
-    let formed = c.requires.0 in
+    let formed = c.args.parts.formed in
     (formed.recorded, λ i h. (formed.fields i h).period.0, formed.most, c.read_run.ensures.size)
 
 pub returns-in_err-due : goal.returns-in_err-due
@@ -33,7 +33,7 @@ returns-in_err-due c =
     let a = c.args in
     let refusal = c.in_err-due.field-0.0 in
     rw (number_handed_on (λ n. n) c.from_residual.result refusal c.from_residual.ensures.1)
-    (stopped a.flows a.rows.now a.records.now a.steps.now a.area.now c.requires.0.most c.read_run.result c.read_run.ensures a.grants.now refusal
+    (stopped a.parts.flows a.parts.rows.now a.parts.records.now a.parts.steps.now a.area.now c.args.parts.formed.most c.read_run.result c.read_run.ensures a.grants.now refusal
     (ap tested (sym (c.in_err-due.was)) ∙ c.due_in-due.ensures.answer))
 
 pub grant_all-out-requires : goal.grant_all-out-requires
@@ -41,11 +41,11 @@ grant_all-out-requires c =
     let a = c.args in
     let due = c.due_in-due in
     let chosen = c.chosen-choice in
-    grants_asked a.flows a.rows.now a.records.now a.steps.now a.area.now c.requires.0.most c.read_run.result c.read_run.ensures due.result.run due.ensures.after
-    chosen.result chosen.ensures c.requires.0 (passed (goal.at.grant_all-out-requires c).In_ok-due) (omega arith) (length a.grants.now) c.requires.2
+    grants_asked a.parts.flows a.parts.rows.now a.parts.records.now a.parts.steps.now a.area.now c.args.parts.formed.most c.read_run.result c.read_run.ensures due.result.run due.ensures.after
+    chosen.result chosen.ensures c.args.parts.formed (passed (goal.at.grant_all-out-requires c).In_ok-due) (omega arith) (length a.grants.now) c.requires.1
 
 pub write_run-requires : goal.write_run-requires
-write_run-requires c = c.requires.1
+write_run-requires c = c.requires.0
 
 pub returns : goal.returns
 returns c =
@@ -54,5 +54,5 @@ returns c =
     let chosen = c.chosen-choice in
     let out = c.grant_all-out in
     rw c.write_run.ensures
-    (ran a.flows a.rows.now a.records.now a.steps.now a.area.now c.requires.0.most c.read_run.result c.read_run.ensures due.result.run due.ensures.after
+    (ran a.parts.flows a.parts.rows.now a.parts.records.now a.parts.steps.now a.area.now c.args.parts.formed.most c.read_run.result c.read_run.ensures due.result.run due.ensures.after
     chosen.result chosen.ensures (passed (goal.at.returns c).In_ok-due) due.result.firsts due.ensures.firsts a.grants.now out.result _ out.ensures)

@@ -12,7 +12,6 @@ use Rattle.run.proofs.start.started.Goals as goal
 pub loop-i-init : goal.loop-i-init
 loop-i-init c =
     let empty = c.empty-run.ensures in (
-      omega arith,
       ap (λ (r : Run). length r.flows) empty,
       ap (λ (r : Run). r.slot.0) empty,
       λ k h. absurd (omega arith),
@@ -20,24 +19,23 @@ loop-i-init c =
     )
 
 pub overflow_cast-len_at : goal.overflow_cast-len_at
-overflow_cast-len_at c = omega (arith, c.len_at.ensures.0, (c.requires.fields c.loop-i.i c.loop-i-test.true).len.1)
+overflow_cast-len_at c = omega (arith, c.len_at.ensures.0, (c.args.parts.formed.fields c.loop-i.i c.loop-i-test.true).len.1)
 
 pub loop-i-preserved : goal.loop-i-preserved
 loop-i-preserved c =
     let loop = c.loop-i in (
-      omega arith,
-      simp length-set loop.invariant.1,
-      loop.invariant.2,
-      below_more _ _ (λ k h. unstored loop.places loop.i k _ (λ e. omega arith) ∙ loop.invariant.3 k h)
-          (stored loop.places loop.i _ (omega arith) ∙ ap (λ (p : Progress). p.done.0) c.idle.ensures ∙ c.len_at.ensures.0),
-      λ k h. unstored loop.places loop.i k _ (λ e. omega arith) ∙ loop.invariant.4 k (omega arith),
+      simp length-set loop.invariant.0,
+      loop.invariant.1,
+      below_more _ _ (λ k h. unstored loop.run.flows loop.i k _ (λ e. omega arith) ∙ loop.invariant.2 k h)
+          (stored loop.run.flows loop.i _ (omega arith) ∙ ap (λ (p : Progress). p.done.0) c.idle.ensures ∙ c.len_at.ensures.0),
+      λ k h. unstored loop.run.flows loop.i k _ (λ e. omega arith) ∙ loop.invariant.3 k (omega arith),
     )
 
 pub returns : goal.returns
 returns c =
     let loop = c.loop-i in
     record {
-      slot = loop.invariant.2;
-      places = λ k h. loop.invariant.3 k (omega arith);
-      others = λ k h. loop.invariant.4 k (omega arith);
+      slot = loop.invariant.1;
+      places = λ k h. loop.invariant.2 k (omega arith);
+      others = λ k h. loop.invariant.3 k (omega arith);
     }

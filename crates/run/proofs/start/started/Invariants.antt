@@ -1,5 +1,5 @@
 -- `run::start::started` makes one flow after another idle in the empty run. Assumes nothing.
-use Prim.Native.Nat.{ℕ, ◌-◌, ◌≤◌, ◌<◌}
+use Prim.Native.Nat.{ℕ, ◌≤◌, ◌<◌}
 use mathlib.Core.Path.{◌≡◌}
 use lib.ListN.{length}
 use Rattle.trade.specs.Limits.{most_flows}
@@ -9,11 +9,7 @@ use Rattle.run.proofs.start.started.Given as goal
 
 abbrev pub invariant-loop-i : goal.invariant-loop-i
 invariant-loop-i l =
-    (l.i ≤ l.flows)
-    × (length l.places ≡ most_flows)
-    × (l.slot.0 ≡ 0)
-    × ((k : ℕ) → k < l.i → place_of l.places k ≡ field l.records k 4)
-    × ((k : ℕ) → l.i ≤ k → place_of l.places k ≡ 0)
-
-abbrev pub decreases-loop-i : goal.decreases-loop-i
-decreases-loop-i l = l.flows - l.i
+    (length l.run.flows ≡ most_flows)
+    × (l.run.slot.0 ≡ 0)
+    × ((k : ℕ) → k < l.i → place_of l.run.flows k ≡ field l.parts.records.now k 4)
+    × ((k : ℕ) → l.i ≤ k → place_of l.run.flows k ≡ 0)

@@ -1,5 +1,5 @@
 -- `why::told::blocker` looks at place by place. The loop's invariant: none up to h blocks. The measure is how many are left. Assumes nothing.
-use Prim.Native.Nat.{ℕ, ◌-◌, ◌≤◌, ◌<◌}
+use Prim.Native.Nat.{ℕ, ◌<◌}
 use mathlib.Core.Path.{◌≡◌}
 use mathlib.Core.Bool.{Bool, false, ◌&&◌}
 use mathlib.Core.List.{List}
@@ -15,7 +15,4 @@ abbrev pub test : List ℕ → ℕ → List Transmission → Transmission → �
 test rows places sent step h = bit places h && conflict (disturbs_in rows) (sent_at sent h) step
 
 abbrev pub invariant-loop-h : goal.invariant-loop-h
-invariant-loop-h l = (l.h ≤ l.place) × ((k : ℕ) → k < l.h → test l.rows l.places l.sent l.step k ≡ false)
-
-abbrev pub decreases-loop-h : goal.decreases-loop-h
-decreases-loop-h l = l.place - l.h
+invariant-loop-h l = (k : ℕ) → k < l.h → test l.rows l.choice.places l.choice.sent l.step k ≡ false

@@ -14,11 +14,11 @@ use Rattle.why.proofs.told.told_in.Goals.{In_ok-due, Start}
 
 -- what the sections say
 abbrev facts : Start → Facts
-facts s = facts_in 0 s.args.flows s.args.rows.now s.args.records.now s.args.steps.now
+facts s = facts_in 0 s.args.parts.flows s.args.parts.rows.now s.args.parts.records.now s.args.parts.steps.now
 
 pub due_in-due-requires : goal.due_in-due-requires
 due_in-due-requires c =
-    let formed = c.requires.0 in
+    let formed = c.args.parts.formed in
     (formed.recorded, λ i h. (formed.fields i h).period.0, formed.most, c.read_run.ensures.size)
 
 -- the run that was read is answered as the area's
@@ -30,21 +30,21 @@ returns-in_err-due c =
     rw (is, same)
     (slot_refused (facts (goal.at.returns-in_err-due c).Start) a.area.now a.place (answer_of refusal)
     (ap tested (sym (c.in_err-due.was)) ∙ c.due_in-due.ensures.answer
-    ∙ read_answer a.flows a.rows.now a.records.now a.steps.now a.area.now c.requires.0.most c.read_run.result c.read_run.ensures) (refuses refusal))
+    ∙ read_answer a.parts.flows a.parts.rows.now a.parts.records.now a.parts.steps.now a.area.now c.args.parts.formed.most c.read_run.result c.read_run.ensures) (refuses refusal))
 
 -- and passes
-passed : (c : In_ok-due) → (slot_answer (facts_in 0 c.args.flows c.args.rows.now c.args.records.now c.args.steps.now) c.args.area.now).code ≡ 0
+passed : (c : In_ok-due) → (slot_answer (facts_in 0 c.args.parts.flows c.args.parts.rows.now c.args.parts.records.now c.args.parts.steps.now) c.args.area.now).code ≡ 0
 passed c =
     let a = c.args in
     sym
     (ap (λ (r : Answer). r.code)
     (ap tested (sym (c.in_ok-due.was)) ∙ c.due_in-due.ensures.answer
-    ∙ read_answer a.flows a.rows.now a.records.now a.steps.now a.area.now c.requires.0.most c.read_run.result c.read_run.ensures))
+    ∙ read_answer a.parts.flows a.parts.rows.now a.parts.records.now a.parts.steps.now a.area.now c.args.parts.formed.most c.read_run.result c.read_run.ensures))
 
-pub returns-then-flows-place : goal.returns-then-flows-place
+pub returns-then-parts-place : goal.returns-then-parts-place
 unfolding facts_of
-returns-then-flows-place c =
-    place_refused (facts (goal.at.returns-then-flows-place c).Start) c.args.area.now c.args.place (passed (goal.at.returns-then-flows-place c).In_ok-due) c.if-flows-place.true
+returns-then-parts-place c =
+    place_refused (facts (goal.at.returns-then-parts-place c).Start) c.args.area.now c.args.place (passed (goal.at.returns-then-parts-place c).In_ok-due) c.if-parts-place.true
 
 pub returns : goal.returns
 unfolding facts_of slot_in
@@ -52,6 +52,6 @@ returns c =
     let a = c.args in
     let due = c.due_in-due in
     c.told.ensures
-    ∙ told_is a.flows a.rows.now a.records.now a.steps.now a.area.now c.requires.0.most c.read_run.result c.read_run.ensures due.result.run due.ensures.after
-    due.result.firsts due.ensures.firsts a.place c.if-flows-place.false
-    ∙ place_told (facts (goal.at.returns c).Start) a.area.now a.place (passed (goal.at.returns c).In_ok-due) c.if-flows-place.false
+    ∙ told_is a.parts.flows a.parts.rows.now a.parts.records.now a.parts.steps.now a.area.now c.args.parts.formed.most c.read_run.result c.read_run.ensures due.result.run due.ensures.after
+    due.result.firsts due.ensures.firsts a.place c.if-parts-place.false
+    ∙ place_told (facts (goal.at.returns c).Start) a.area.now a.place (passed (goal.at.returns c).In_ok-due) c.if-parts-place.false

@@ -5,20 +5,16 @@ use mathlib.Core.Path.{◌≡◌, refl, sym, ◌∙◌, ap, ap₂}
 use mathlib.Core.List.{List, [], ◌++◌, append_assoc, append-nil, reverse, reverse-append, reverse-reverse}
 use native.Mathlib.Omega.{arith}
 use lib.ListN.{length, take, drop, replicate, length-append, length-drop, take-append-drop, drop_of_length-le, length-reverse}
-use lib.Seq.{length-take-le, take-take, take-add, take_at, drop_at, length-slice}
+use lib.Seq.{length-take-le, take-take, take-add, take_at, drop_at, slice, length-slice}
 use borrow.Rule.Slice.PartMut.{mid_of, put_mid, Post-is, mid_len}
 use Rattle.std.proofs.lemmas.List.{drop-take}
 use Rattle.trade.specs.Bytes.{part, padded, over}
 use Rattle.trade.specs.Exchange.{spliced}
 use Rattle.trade.proofs.Exchange.{length_spliced}
 use Rattle.numbers.specs.Pasting.{pasted_at}
-use lib.Seq.{slice}
 use Rattle.cut.specs.Turned.{turned}
 
 -- A LIST IN PARTS: what stands before a place, up to a second, up to a third, and behind it
-length_part : (from to : ℕ) (l : List ℕ) → to ≤ length l → length (slice from to l) ≡ to - from
-length_part from to l h = length-slice from to l h
-
 two_parts : (from to : ℕ) (l : List ℕ) → from ≤ to → take to l ≡ take from l ++ slice from to l
 two_parts from to l h = sym (take-append-drop from (take to l)) ∙ ap (λ (a : List ℕ). a ++ drop from (take to l)) (take-take from to l h)
 
@@ -101,17 +97,17 @@ turned_in_turn from middle to l l₁ l₂ l₃ h g k e₁ e₂ e₃ =
     let q = slice middle to l in
     let r = drop to l in
     let front : length a ≡ from = length-take-le from l (omega arith) in
-    let size_p : length (reverse p) ≡ middle - from = length-reverse p ∙ length_part from middle l (omega arith) in
-    let size_q : length (reverse q) ≡ to - middle = length-reverse q ∙ length_part middle to l k in
+    let size_p : length (reverse p) ≡ middle - from = length-reverse p ∙ length-slice from middle l (omega arith) in
+    let size_q : length (reverse q) ≡ to - middle = length-reverse q ∙ length-slice middle to l k in
     let f₁ : l₁ ≡ a ++ reverse p ++ (q ++ r) =
     e₁
     ∙ ap (flipped from middle) (in_parts from middle to l h g)
-    ∙ flipped_part from middle a p (q ++ r) front (omega (arith, length_part from middle l (omega arith)))
+    ∙ flipped_part from middle a p (q ++ r) front (omega (arith, length-slice from middle l (omega arith)))
     ∙ sym (append_assoc a (reverse p) (q ++ r)) in
     let f₂ : l₂ ≡ a ++ ((reverse p ++ reverse q) ++ r) =
     e₂
     ∙ ap (flipped middle to) f₁
-    ∙ flipped_part middle to (a ++ reverse p) q r (omega (arith, length-append a (reverse p), front, size_p)) (omega (arith, length_part middle to l k))
+    ∙ flipped_part middle to (a ++ reverse p) q r (omega (arith, length-append a (reverse p), front, size_p)) (omega (arith, length-slice middle to l k))
     ∙ simp append_assoc in
     e₃
     ∙ ap (flipped from to) f₂
@@ -137,7 +133,7 @@ left_front from to end l h g k =
     let a = take from l in
     let t = slice to end l in
     let size : length (a ++ t) ≡ end - (to - from) =
-    length-append a t ∙ omega (arith, length-take-le from l (omega arith), length_part to end l k) in
+    length-append a t ∙ omega (arith, length-take-le from l (omega arith), length-slice to end l k) in
     ap (take (end - (to - from))) (sym (append_assoc a t (slice from to l ++ drop end l)))
     ∙ take_at (a ++ t) (slice from to l ++ drop end l) (end - (to - from)) size
     ∙ sym (without from to end l (omega arith))
@@ -174,7 +170,7 @@ module _ (at end : ℕ) (held l : List ℕ) (within : at ≤ end) (room : end + 
       let r = drop (end + length held) l in
       ap (turned at end (end + length held)) (ap (λ (u : List ℕ). u ++ held ++ r) (two_parts at end l within) ∙ simp append_assoc)
       ∙ turned_parts at end (end + length held) a t held r (length-take-le at l (omega arith))
-      (omega (arith, length_part at end l (omega arith))) refl
+      (omega (arith, length-slice at end l (omega arith))) refl
       ∙ sym
       (ap₂ (λ (x : List ℕ) (n : ℕ). x ++ drop n l) (ap (λ (x : List ℕ). x ++ held ++ t) (take-take at end l within)) length_entered
       ∙ simp append_assoc)
@@ -196,8 +192,8 @@ module _ (at end : ℕ) (held l : List ℕ) (within : at ≤ end) (room : end + 
       let t = slice (at + length held) (end + length held) l in
       let r = drop (end + length held) l in
       let size_a : length a ≡ at = length-take-le at l (omega arith) in
-      let size_p : length p ≡ length held = length_part at (at + length held) l (omega arith) ∙ omega arith in
-      let size_t : length t ≡ end - at = length_part (at + length held) (end + length held) l room ∙ omega arith in
+      let size_p : length p ≡ length held = length-slice at (at + length held) l (omega arith) ∙ omega arith in
+      let size_t : length t ≡ end - at = length-slice (at + length held) (end + length held) l room ∙ omega arith in
       let front : length (a ++ t) ≡ end = length-append a t ∙ omega arith in
       let all : length (a ++ t ++ p) ≡ end + length held = length-append (a ++ t) p ∙ omega arith in
       let seam : a ++ (t ++ (p ++ r)) ≡ a ++ t ++ (p ++ r) = sym (append_assoc a t (p ++ r)) in
@@ -253,8 +249,8 @@ went_behind at end size l h k =
     let p = slice at (at + size) l in
     let r = drop (end + size) l in
     let front : length a ≡ at = length-take-le at l (omega arith) in
-    let both : length (a ++ q) ≡ end = length-append a q ∙ omega (arith, front, length_part (at + size) (end + size) l k) in
-    let went : length p ≡ size = length_part at (at + size) l (omega arith) ∙ omega arith in
+    let both : length (a ++ q) ≡ end = length-append a q ∙ omega (arith, front, length-slice (at + size) (end + size) l k) in
+    let went : length p ≡ size = length-slice at (at + size) l (omega arith) ∙ omega arith in
     let same : p ≡ take size (drop at l) = ap (drop at) (take-add at size l) ∙ drop_at a (take size (drop at l)) at front in
     ap (λ (b : List ℕ). take size (drop end b)) (sym (append_assoc a q (p ++ r)))
     ∙ ap (take size) (drop_at (a ++ q) (p ++ r) end both)

@@ -11,19 +11,6 @@ use Rattle.pairs.proofs.columns.gather.Goals as goal
 pub loop-b-init : goal.loop-b-init
 loop-b-init c = (c.step_count-len.ensures, refl, columns_none _ _ _ _ c.requires.4, λ x h. refl)
 
-pub step_at-requires : goal.step_at-requires
-step_at-requires c = omega (arith, c.loop-b.invariant.0)
-
-pub note-requires : goal.note-requires
-note-requires c =
-    let loop = c.loop-b in
-    let len : ℕ = c.step_count-len.result in (
-      rw c.step_at.ensures (c.requires.1 (len - 1 - loop.b) (omega (arith, loop.invariant.0))),
-      omega (arith, loop.invariant.0, c.requires.0),
-      c.requires.2,
-      omega (arith, loop.invariant.1, c.requires.3),
-    )
-
 pub loop-b-preserved : goal.loop-b-preserved
 loop-b-preserved c =
     let loop = c.loop-b in
@@ -38,9 +25,3 @@ loop-b-preserved c =
           (omega (arith, loop.invariant.0, c.requires.0)) (rw (c.step_at.ensures, e) at noted) loop.invariant.2,
       λ x h. noted.others x h ∙ loop.invariant.3 x h,
     )
-
-pub returns : goal.returns
-returns c =
-    let loop = c.loop-b in
-    let all : loop.b ≡ steps_in c.args.plan.now = omega (arith, loop.invariant.0) in
-    record { size = loop.invariant.1; columns = rw (← all) loop.invariant.2; others = loop.invariant.3 }

@@ -5,9 +5,6 @@ use Rattle.pairs.specs.Columns.{marked_at}
 use Rattle.pairs.proofs.SpreadLaws.{halves_or}
 use Rattle.pairs.proofs.columns.marks_of.Goals as goal
 
-pub overflow_cast-result : goal.overflow_cast-result
-overflow_cast-result c = record { fits = omega (arith, c.type_inv.columns c.args.t.sender.0) }
-
 pub returns : goal.returns
 unfolding marked_at
 returns c b =

@@ -1,12 +1,11 @@
 -- `plans::single::single` writes each step that is no repeat behind those before it. The loop's invariant: the first k steps stand so.
 -- Assumes nothing.
 use Prim.Native.Nat.{◌+◌, ◌*◌, ◌<◌}
-use mathlib.Core.Path.{◌≡◌, refl, sym, ◌∙◌}
+use mathlib.Core.Path.{refl, sym, ◌∙◌}
 use native.Mathlib.Omega.{arith}
 use native.Mathlib.Numerals.{add-one}
 use lib.ListN.{length}
 use Rattle.trade.specs.Limits.{step_bytes}
-use Rattle.plans.specs.Plan.{steps_in}
 use Rattle.plans.specs.Single.{singles}
 use Rattle.plans.proofs.SingleLaws.{singles_most, singles_again, singles_new, singled_none, singled_again, singled_new}
 use Rattle.plans.proofs.single.single.Goals as goal
@@ -42,9 +41,3 @@ loop-k-preserved c =
         | else-not-is_again w ↦ rw w.out-is (singled_again plan loop.k c.args.out.now loop.out (sym known ∙ w.if-not-is_again.false) loop.invariant.2)
       ],
     )
-
-pub returns : goal.returns
-returns c =
-    let loop = c.loop-k in
-    let all : loop.k ≡ steps_in c.args.plan.now = omega (arith, loop.invariant.0) in
-    rw (← all) (loop.invariant.2, loop.invariant.1)

@@ -23,11 +23,6 @@ passed c =
     (ap tested (sym (c.in_ok-due.was)) ∙ c.due_in-due.ensures.answer
     ∙ read_answer a.flows a.rows.now a.records.now a.steps.now a.area.now c.requires.0.most c.read_run.result c.read_run.ensures))
 
-pub due_in-due-requires : goal.due_in-due-requires
-due_in-due-requires c =
-    let formed = c.requires.0 in
-    (formed.recorded, λ i h. (formed.fields i h).period.0, formed.most, c.read_run.ensures.size)
-
 pub returns-in_err-due : goal.returns-in_err-due
 returns-in_err-due c =
     let a = c.args in
@@ -43,9 +38,6 @@ grant_all-out-requires c =
     let chosen = c.chosen-choice in
     grants_asked a.flows a.rows.now a.records.now a.steps.now a.area.now c.requires.0.most c.read_run.result c.read_run.ensures due.result.run due.ensures.after
     chosen.result chosen.ensures c.requires.0 (passed (goal.at.grant_all-out-requires c).In_ok-due) (omega arith) (length a.grants.now) c.requires.2
-
-pub write_run-requires : goal.write_run-requires
-write_run-requires c = c.requires.1
 
 pub returns : goal.returns
 returns c =

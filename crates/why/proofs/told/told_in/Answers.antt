@@ -16,11 +16,6 @@ use Rattle.why.proofs.told.told_in.Goals.{In_ok-due, Start}
 abbrev facts : Start → Facts
 facts s = facts_in 0 s.args.flows s.args.rows.now s.args.records.now s.args.steps.now
 
-pub due_in-due-requires : goal.due_in-due-requires
-due_in-due-requires c =
-    let formed = c.requires.0 in
-    (formed.recorded, λ i h. (formed.fields i h).period.0, formed.most, c.read_run.ensures.size)
-
 -- the run that was read is answered as the area's
 pub returns-in_err-due : goal.returns-in_err-due
 returns-in_err-due c =

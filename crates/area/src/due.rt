@@ -11,8 +11,8 @@ use sections::records::record_at;
 use slot::release::is_released;
 use trade::{Clock, Flow, Progress, Refusal, Run, Slot, Step};
 
-// What codes 10, 12 and 11 say of a run, the run after the releases of its slot, and the first release of each flow. The last two stand beside
-// the Result and not in its Ok: taken out of there they cost ADVANCE 115 instructions more, and 368 bytes more of stack.
+// What codes 10, 12 and 11 say of a run, the run after the releases of its slot, and the first release of each flow. The last two stand
+// beside the Result, not in its Ok: taken out of there they cost ADVANCE 94 to 234 instructions more, and 368 bytes more of stack.
 #[derive(Clone, Copy)]
 pub struct Due {
     pub test: Result<(), Refusal>,

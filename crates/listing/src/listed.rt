@@ -1,13 +1,10 @@
 // The listing of a book: the bounds of its flows and the grants of its first slots, or why it is refused.
-ghost use Rattle.std.specs.Prelude.{◌*◌, ◌≤◌, length};
-ghost use Rattle.trade.specs.Limits.{most_flows, record_bytes};
-
 use crate::lines::{print_book, print_bound, print_grant, print_refusal};
-use book::parts::{open_book, records_of};
-use bounds::acceptance::check;
+use book::parts::open_book;
+use bounds::bounds::{Bounds, bounds_of};
 use run::advance::advance;
 use run::start::start;
-use sections::records::record_at;
+use sections::parts::Parts;
 use std::io;
 use trade::{Flow, Grant, Run, Slot};
 
@@ -15,17 +12,10 @@ use trade::{Flow, Grant, Run, Slot};
 pub const SLOTS: u32 = 12;
 
 // The bound of each flow, in record order.
-fn list_bounds(
-    rt: &impl Print,
-    flows: usize,
-    records: &[u8],
-    bounds: &[u16; Flow::MOST],
-) -> io::Result<()>
-    requires { (flows ≤ most_flows) × (record_bytes * flows ≤ length records.now) }
-{
-    let bounds = &bounds[..flows];
+fn list_bounds(rt: &impl Print, parts: Parts, bounds: &Bounds) -> io::Result<()> {
+    let bounds = &bounds[..parts.flows];
     for (i, bound) in bounds.iter().enumerate() {
-        print_bound(rt, record_at(records, i), *bound)?;
+        print_bound(rt, parts.flow(i), *bound)?;
     }
     Ok(())
 }
@@ -61,18 +51,15 @@ fn list_run(rt: &impl Print, book: &[u8]) -> io::Result<()> {
 
 // A book is refused as a whole, before anything else is printed.
 pub fn list(rt: &impl Print, book: &[u8]) -> io::Result<()> {
-    let opened = open_book(book);
-    let answer = opened.answer;
-    if answer.code != 0 {
-        return print_refusal(rt, answer);
-    }
-    let checked = check(book);
-    let bounded = checked.answer;
-    if bounded.code != 0 {
-        return print_refusal(rt, bounded);
-    }
-    let f = opened.frame;
-    print_book(rt, f.nodes, f.flows)?;
-    list_bounds(rt, f.flows, records_of(book, f), &checked.bounds)?;
+    let parts = match open_book(book) {
+        Ok(parts) => parts,
+        Err(refusal) => return print_refusal(rt, refusal.answer()),
+    };
+    let bounds = match bounds_of(parts) {
+        Ok(bounds) => bounds,
+        Err(refusal) => return print_refusal(rt, refusal.answer()),
+    };
+    print_book(rt, parts.nodes, parts.flows)?;
+    list_bounds(rt, parts, &bounds)?;
     list_run(rt, book)
 }

@@ -1,38 +1,31 @@
 // Why each flow of a book waits in each of its first slots, or that it does not.
-ghost use Rattle.std.specs.Prelude.{◌*◌, ◌≤◌, length};
-ghost use Rattle.trade.specs.Limits.{record_bytes};
-
-use book::parts::{open_book, records_of};
+use book::parts::open_book;
 use listing::lines::{print_book, print_refusal};
 use run::advance::advance;
 use run::start::start;
-use sections::records::record_at;
+use sections::parts::Parts;
 use std::io;
 use trade::{Flow, Grant, Run, Slot, Told};
 use why::told::why;
 
 // The id of the flow at a place; none where the book has no such place.
-fn id_at(flows: usize, records: &[u8], i: usize) -> Option<u16>
-    requires { record_bytes * flows ≤ length records.now }
-{
-    if i < flows {
-        Some(record_at(records, i).id)
+fn id_at(parts: Parts, place: usize) -> Option<u16> {
+    if place < parts.flows {
+        Some(parts.flow(place).id)
     } else {
         None
     }
 }
 
 // The end of a line: what is told. The flow that is waited on is named by its id; the book has it, so 0, which is no id, is never printed.
-fn print_told(rt: &impl Print, flows: usize, records: &[u8], told: Told) -> io::Result<()>
-    requires { record_bytes * flows ≤ length records.now }
-{
+fn print_told(rt: &impl Print, parts: Parts, told: Told) -> io::Result<()> {
     match told {
         Told::Refused(answer) => println!(rt; " REFUSED {answer}"),
         Told::NotReleased => println!(rt; " not released"),
         Told::Finished => println!(rt; " finished"),
         Told::Granted => println!(rt; " granted"),
         Told::WaitingOn(place) => {
-            let id = id_at(flows, records, usize::from(place)).unwrap_or(0);
+            let id = id_at(parts, usize::from(place)).unwrap_or(0);
             println!(rt; " waits on {id}")
         }
     }
@@ -42,16 +35,13 @@ fn print_told(rt: &impl Print, flows: usize, records: &[u8], told: Told) -> io::
 fn tell_slot(
     rt: &impl Print,
     book: &[u8],
-    flows: usize,
-    records: &[u8],
+    parts: Parts,
     area: &[u8],
     slot: Slot,
-) -> io::Result<()>
-    requires { record_bytes * flows ≤ length records.now }
-{
-    for i in 0..flows {
-        print!(rt; "SLOT {} FLOW {}", slot.0, record_at(records, i).id)?;
-        print_told(rt, flows, records, why(book, area, i))?;
+) -> io::Result<()> {
+    for i in 0..parts.flows {
+        print!(rt; "SLOT {} FLOW {}", slot.0, parts.flow(i).id)?;
+        print_told(rt, parts, why(book, area, i))?;
     }
     Ok(())
 }
@@ -60,16 +50,13 @@ fn tell_slot(
 fn tell_run(
     rt: &impl Print,
     book: &[u8],
-    flows: usize,
-    records: &[u8],
+    parts: Parts,
     area: &mut [u8; Run::AREA_BYTES],
     slots: u32,
-) -> io::Result<()>
-    requires { record_bytes * flows ≤ length records.now }
-{
+) -> io::Result<()> {
     let mut grants = [0u8; Flow::MOST * Grant::BYTES];
     for slot in 0..slots {
-        tell_slot(rt, book, flows, records, area, Slot(slot))?;
+        tell_slot(rt, book, parts, area, Slot(slot))?;
         let answer = advance(book, area, &mut grants);
         if answer.code != 0 {
             return print_refusal(rt, answer);
@@ -80,17 +67,15 @@ fn tell_run(
 
 // A book is refused as a whole, before anything else is printed.
 pub(crate) fn tell(rt: &impl Print, book: &[u8], slots: u32) -> io::Result<()> {
-    let opened = open_book(book);
-    let answer = opened.answer;
-    if answer.code != 0 {
-        return print_refusal(rt, answer);
-    }
+    let parts = match open_book(book) {
+        Ok(parts) => parts,
+        Err(refusal) => return print_refusal(rt, refusal.answer()),
+    };
     let mut area = [0u8; Run::AREA_BYTES];
     let started = start(book, &mut area);
     if started.code != 0 {
         return print_refusal(rt, started);
     }
-    let f = opened.frame;
-    print_book(rt, f.nodes, f.flows)?;
-    tell_run(rt, book, f.flows, records_of(book, f), &mut area, slots)
+    print_book(rt, parts.nodes, parts.flows)?;
+    tell_run(rt, book, parts, &mut area, slots)
 }

@@ -7,7 +7,7 @@ use trade::Clock;
 // Longer arguments are none that the program knows.
 const LONGEST: usize = 16;
 
-// The number of slots that a text spells, by digits alone, where the clock has so many.
+// The number of slots that a text spells, where the clock has so many. It is digits alone: parse by itself would take a sign too.
 fn slots_in(text: &str) -> Option<u32> {
     if !text.bytes().all(|b| b.is_ascii_digit()) {
         return None;

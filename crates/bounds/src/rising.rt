@@ -19,7 +19,7 @@ fn instances(r: u32, carry: u32, period: u32) -> u32
     if reach <= 2 * period {
         return 2;
     }
-    (reach + (period - 1)) / period
+    reach.div_ceil(period)
 }
 
 // The slots that a flow needs within r slots: its own, and for each flow above it the instances of that flow, times its figure.

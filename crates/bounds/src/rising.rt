@@ -19,7 +19,7 @@ fn instances(r: u32, carry: u32, period: u32) -> u32
     if reach <= 2 * period {
         return 2;
     }
-    (reach + (period - 1)) / period
+    reach.div_ceil(period)
 }
 
 // The slots that a flow needs within r slots: its own, and for each flow above it the instances of that flow, times its figure.
@@ -35,10 +35,8 @@ fn slots_needed(
     ensures { result ≡ needed_in len above figures.now periods.now carries.now r }
 {
     let mut sum = len;
-    let mut h = 0;
-    while h < above {
+    for h in 0..above {
         sum += instances(r, carries[h] as u32, periods[h] as u32) * figures[h];
-        h += 1;
     }
     sum
 }
@@ -48,13 +46,7 @@ fn least_needed(len: u32, above: usize, figures: &[u32; Flow::MOST]) -> u32
     requires { (above ≤ most_flows) × (len ≤ most_steps) × ((h : ℕ) → h < above → get_or figures.now h 0 ≤ 255) }
     ensures { result ≡ least_in len above figures.now }
 {
-    let mut sum = len;
-    let mut h = 0;
-    while h < above {
-        sum += figures[h];
-        h += 1;
-    }
-    sum
+    len + figures[..above].iter().sum::<u32>()
 }
 
 // The smallest r from the plan's length to the deadline that is at least the slots needed within it; deadline + 1 where there is none.

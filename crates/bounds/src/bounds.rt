@@ -8,8 +8,7 @@ ghost use Rattle.bounds.specs.Bounds.{Timed, by_costs, checked_by, bounded_in, b
 
 use crate::costs::Costs;
 use crate::rising::smallest;
-use crate::worked::Worked;
-use figures::figures::hear_above;
+use figures::heard::Heard;
 use sections::parts::Parts;
 use sections::records::record_at;
 use trade::{Answer, Flow, Node, Refusal};
@@ -95,20 +94,6 @@ pub(crate) fn bounds_by<C: Costs>(
 pub fn bounds_of(parts: Parts) -> Result<Bounds, Refusal>
     ensures { checked_by result ≡ bounded_by (facts_in 0 parts.entry.flows parts.entry.rows.now parts.entry.records.now parts.entry.steps.now) }
 {
-    let mut heard = [0u64; Node::MOST];
-    hear_above(
-        parts.flows,
-        parts.rows,
-        parts.records,
-        parts.steps,
-        &mut heard,
-    );
-    bounds_by(
-        parts.flows,
-        parts.records,
-        &Worked {
-            parts,
-            heard: &heard,
-        },
-    )
+    let mut room = [0u64; Node::MOST];
+    bounds_by(parts.flows, parts.records, &Heard::of(parts, &mut room))
 }

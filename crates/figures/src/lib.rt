@@ -1,6 +1,7 @@
 // The interference figures of the flows of a formed book.
 #![tactic(auto)]
 
-pub mod figures;
+mod figures;
+pub mod heard;
 mod lanes;
 mod rises;

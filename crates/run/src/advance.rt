@@ -22,7 +22,7 @@ fn run_slot(parts: Parts, area: &mut [u8], grants: &mut [u8]) -> Result<usize, R
 {
     let due = due_in(parts.flows, parts.records, read_run(area));
     due.test?;
-    let choice = chosen(parts.flows, parts.rows, parts.records, parts.steps, due.run);
+    let choice = chosen(parts, due.run);
     let out = grant_all(parts.records, due.firsts, due.run, choice, grants);
     write_run(area, out.run);
     Ok(out.count)

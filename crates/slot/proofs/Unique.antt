@@ -44,7 +44,7 @@ same_sent : (ps qs : List Transmission) → length ps ≡ length qs → ((i : �
 unfolding sent_at
 same_sent ps qs size e = ext_get_or no_step ps qs size (λ i h. e i)
 
-pub chosen_unique : OneResult 3 chosen_kinds.ps chosen_kinds.r chosen.Post
+pub chosen_unique : OneResult 1 chosen_kinds.ps chosen_kinds.r chosen.Post
 chosen_unique κs a r r' s s' p q =
     let places = same_bits r.places r'.places (λ i. one_result (p.goes i) (q.goes i)) in
     let sent = same_sent r.sent r'.sent (one_result p.size q.size) (λ i. one_result (p.sends i) (q.sends i)) in

@@ -2,12 +2,12 @@
 ghost use Rattle.std.specs.Prelude.{◌≡◌, length};
 ghost use Rattle.trade.specs.Limits.{most_flows};
 ghost use Rattle.trade.specs.Facts.{facts_in};
-ghost use Rattle.sections.specs.Formed.{Formed};
 ghost use Rattle.slot.specs.States.{state_of};
 ghost use Rattle.slot.specs.Choice.{Turning, Turned, Chooses};
 
 use nodes::grants::GrantSet;
 use plans::view::plan_step;
+use sections::parts::Parts;
 use sections::records::len_at;
 use trade::{Flow, Node, Run, Step, Transmission};
 
@@ -45,9 +45,9 @@ fn take_turn(rows: &[u8], steps: &[u8], turn: Turn, set: &mut GrantSet) -> Optio
 }
 
 // The flows that go, by the sections of a book and a run that has the releases of its slot.
-pub fn chosen(flows: usize, rows: &[u8], records: &[u8], steps: &[u8], run: Run) -> Choice
-    requires { Formed flows rows.now records.now steps.now × (length run.flows ≡ most_flows) }
-    ensures { Chooses (facts_in 0 flows rows.now records.now steps.now) (state_of run) result }
+pub fn chosen(parts: Parts, run: Run) -> Choice
+    requires { length run.flows ≡ most_flows }
+    ensures { Chooses (facts_in 0 parts.entry.flows parts.entry.rows.now parts.entry.records.now parts.entry.steps.now) (state_of run) result }
 {
     let mut set = GrantSet::empty();
     let mut places = 0;
@@ -56,10 +56,15 @@ pub fn chosen(flows: usize, rows: &[u8], records: &[u8], steps: &[u8], run: Run)
         receiver: Node(0),
     }; Flow::MOST];
     let mut start = 0;
-    for i in 0..flows {
-        let len = len_at(records, i);
+    for i in 0..parts.flows {
+        let len = len_at(parts.records, i);
         let done = run.flows[i].done;
-        if let Some(step) = take_turn(rows, steps, Turn { start, len, done }, &mut set) {
+        if let Some(step) = take_turn(
+            parts.rows,
+            parts.steps,
+            Turn { start, len, done },
+            &mut set,
+        ) {
             places |= 1 << i;
             sent[i] = step;
         }

@@ -23,7 +23,7 @@ line_from_unique κs a r r' s s' p q = one_result p q
 pub put_line_unique : (κs : _) (a : _) (r r' : _) (s s' : _) → put_line.Post κs a r s → put_line.Post κs a r' s' → s.0.now ≡ s'.0.now
 put_line_unique κs a r r' s s' p q = put_one p q
 
-pub keep_unique : (κs : _) (a : _) (r r' : _) (s s' : _) → keep.Post κs a r s → keep.Post κs a r' s' → s.1.1.1.1.0.now ≡ s'.1.1.1.1.0.now
+pub keep_unique : (κs : _) (a : _) (r r' : _) (s s' : _) → keep.Post κs a r s → keep.Post κs a r' s' → s.1.0.now ≡ s'.1.0.now
 keep_unique κs a r r' s s' p q = one_result p q
 
 pub kept_answer_unique : OneResult 2 kept_answer_kinds.ps kept_answer_kinds.r kept_answer.Post

@@ -10,7 +10,7 @@ ghost use Rattle.trade.specs.Kept.{figures_room, figure_in};
 ghost use Rattle.square.specs.Carried.{pairs_of, figure_with, with_figures, without_figures};
 
 use crate::kept::{clear_from, line_from, put_line};
-use figures::figures::{figure_at, figures_at, hear_above};
+use figures::heard::Heard;
 use sections::parts::Parts;
 use trade::{Flow, Node};
 
@@ -19,17 +19,11 @@ pub fn pairs_at(parts: Parts, place: usize) -> [u32; Flow::MOST]
     requires { place < parts.flows }
     ensures { result ≡ pairs_of parts.entry.flows (facts_in 0 0 parts.entry.rows.now parts.entry.records.now parts.entry.steps.now) place }
 {
-    let mut heard = [0u64; Node::MOST];
-    hear_above(
-        parts.flows,
-        parts.rows,
-        parts.records,
-        parts.steps,
-        &mut heard,
-    );
-    let mut pairs = figures_at(parts.rows, &heard, parts.records, parts.steps, place);
+    let mut room = [0u64; Node::MOST];
+    let heard = Heard::of(parts, &mut room);
+    let mut pairs = heard.figures_at(place);
     for l in place + 1..parts.flows {
-        pairs[l] = figure_at(parts.rows, &heard, parts.records, parts.steps, l, place);
+        pairs[l] = heard.figure_at(l, place);
     }
     pairs
 }

@@ -6,11 +6,9 @@ ghost use Rattle.trade.specs.Layout.{sections};
 ghost use Rattle.trade.specs.Facts.{facts_in};
 ghost use Rattle.trade.specs.Kept.{figures_room, figure_in, figures_of, code17};
 ghost use Rattle.trade.specs.Refusals.{tested};
-ghost use Rattle.sections.specs.Formed.{Formed};
-ghost use Rattle.figures.specs.Figures.{AllHeard};
 ghost use Rattle.square.specs.Carried.{shifted, line_from, LinePut, Cleared};
 
-use figures::figures::{figures_at, hear_above};
+use figures::heard::Heard;
 use sections::parts::Parts;
 use trade::{Flow, Node, Refusal};
 
@@ -63,17 +61,16 @@ pub(crate) fn clear_from(figures: &mut [u8], l: usize)
 }
 
 // The figures of all flows, and every other zero.
-pub fn keep(flows: usize, rows: &[u8], records: &[u8], steps: &[u8], figures: &mut [u8])
-    requires { Formed flows rows.now records.now steps.now × (length figures.old ≡ figures_room) }
-    ensures { figures.new ≡ figures_of (facts_in 0 flows rows.now records.now steps.now) }
+pub fn keep(parts: Parts, figures: &mut [u8])
+    requires { length figures.old ≡ figures_room }
+    ensures { figures.new ≡ figures_of (facts_in 0 parts.entry.flows parts.entry.rows.now parts.entry.records.now parts.entry.steps.now) }
 {
-    let mut heard = [0u64; Node::MOST];
-    hear_above(flows, rows, records, steps, &mut heard);
-    for l in 0..flows {
-        let line = figures_at(rows, &heard, records, steps, l);
-        put_line(figures, l, &line);
+    let mut room = [0u64; Node::MOST];
+    let heard = Heard::of(parts, &mut room);
+    for l in 0..parts.flows {
+        put_line(figures, l, &heard.figures_at(l));
     }
-    clear_from(figures, flows);
+    clear_from(figures, parts.flows);
 }
 
 // Whether the figures of line l that are asked for, those of the flows above it, are these.
@@ -95,17 +92,10 @@ pub fn kept_answer(parts: Parts, figures: &[u8]) -> Result<(), Refusal>
       figures = figures.now;
     }) }
 {
-    let mut heard = [0u64; Node::MOST];
-    hear_above(
-        parts.flows,
-        parts.rows,
-        parts.records,
-        parts.steps,
-        &mut heard,
-    );
+    let mut room = [0u64; Node::MOST];
+    let heard = Heard::of(parts, &mut room);
     for l in 0..parts.flows {
-        let line = figures_at(parts.rows, &heard, parts.records, parts.steps, l);
-        if !is_line(figures, l, &line) {
+        if !is_line(figures, l, &heard.figures_at(l)) {
             return Err(Refusal::BadFigure(l));
         }
     }

@@ -85,7 +85,14 @@ pub fn table_of<'a>(
     r[..rows.len()].copy_from_slice(rows);
     c[..records.len()].copy_from_slice(records);
     s[..steps.len()].copy_from_slice(steps);
-    keep(flows as usize, rows, records, steps, &mut i);
+    let parts = Parts {
+        nodes: nodes as usize,
+        flows: flows as usize,
+        rows,
+        records,
+        steps,
+    };
+    keep(parts, &mut i);
     Table {
         nodes,
         flows,

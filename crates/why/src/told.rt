@@ -55,7 +55,7 @@ fn told(parts: Parts, run: Run, first: Slot, place: usize) -> Told
     if len <= done {
         return Told::Finished;
     }
-    let choice = chosen(parts.flows, parts.rows, parts.records, parts.steps, run);
+    let choice = chosen(parts, run);
     if has_place(choice.places, place) {
         return Told::Granted;
     }

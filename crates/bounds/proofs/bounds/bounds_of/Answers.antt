@@ -11,11 +11,8 @@ use Rattle.pairs.proofs.SpreadLaws.{zeros}
 use Rattle.bounds.proofs.BoundsLaws.{bounded_times}
 use Rattle.bounds.proofs.bounds.bounds_of.Goals as goal
 
-pub hear_above-requires : goal.hear_above-requires
-hear_above-requires c = record {
-  formed = c.args.parts.formed;
-  heard_len = (refl, λ y h. zeros 64 y);
-}
+pub of-requires : goal.of-requires
+of-requires c = (refl, λ y h. zeros 64 y)
 
 pub returns : goal.returns
 unfolding facts_of
@@ -25,7 +22,7 @@ returns c =
     let o : Facts = facts_in 0 0 p.rows.now p.records.now p.steps.now in
     let g : Facts = facts_in 0 p.flows p.rows.now p.records.now p.steps.now in
     let times : SameTimes p.flows f g = record { len = λ i h. refl; period = λ i h. refl; deadline = λ i h. refl } in
-    c.bounds_by.ensures
+    (rw c.of.ensures.parts at c.bounds_by.ensures)
     ∙ bounded_times f g refl times (fairly f (interference o)) (fairly g (interference g))
     (fair_same p.flows f g times (interference o) (interference g)
     (λ l h q r. interference_alike p.flows o g (alike_counts p.flows 0 0 0 p.flows p.rows.now p.records.now p.steps.now) l h q (omega arith)))

@@ -25,20 +25,20 @@ take_turn-requires c =
     let a = c.args in
     let loop = c.loop-i in
     rw (loop.invariant.0, c.len_at-len.ensures.0)
-    (turn_asks a.flows a.rows.now a.records.now a.steps.now (record { slot = 0; done = place_of a.run.flows }) c.requires.0 loop.i c.loop-i-test.true)
+    (turn_asks a.parts.flows a.parts.rows.now a.parts.records.now a.parts.steps.now (record { slot = 0; done = place_of a.run.flows }) c.args.parts.formed loop.i c.loop-i-test.true)
 
 pub overflow_add-start : goal.overflow_add-start
 unfolding first_step facts_of
 overflow_add-start c =
     let loop = c.loop-i in
     let taken = c.loop-i-test.true in
-    let len : ℕ → ℕ = λ k. field c.args.records.now k 4 in
+    let len : ℕ → ℕ = λ k. field c.args.parts.records.now k 4 in
     omega (
       arith,
       loop.invariant.0,
       c.len_at-len.ensures.1,
-      sum_most len most_steps loop.i (λ k h. (c.requires.0.fields k (omega (arith, taken))).len.1),
-      c.requires.0.most,
+      sum_most len most_steps loop.i (λ k h. (c.args.parts.formed.fields k (omega (arith, taken))).len.1),
+      c.args.parts.formed.most,
       taken,
     )
 
@@ -49,14 +49,14 @@ loop-i-preserved c =
     let loop = c.loop-i in
     let taken = c.loop-i-test.true in
     let len = c.len_at-len.ensures.0 in (
-      rw (add-one loop.i, sum_next (λ (k : ℕ). field a.records.now k 4) loop.i) (ap₂ ◌+◌ loop.invariant.0 len),
+      rw (add-one loop.i, sum_next (λ (k : ℕ). field a.parts.records.now k 4) loop.i) (ap₂ ◌+◌ loop.invariant.0 len),
       rw (add-one loop.i)
           (elim c.match-take_turn.branch [
-            | in-Some w ↦ rw (w.places-is, w.sent-is, one_bit_of 32 loop.i (omega (arith, taken, c.requires.0.most)))
-                (chosen_goes a.flows a.rows.now a.records.now a.steps.now (record { slot = 0; done = place_of a.run.flows }) c.requires.0 loop.i taken loop.set loop.places loop.sent loop.invariant.1 c.take_turn.new.set
+            | in-Some w ↦ rw (w.places-is, w.sent-is, one_bit_of 32 loop.i (omega (arith, taken, c.args.parts.formed.most)))
+                (chosen_goes a.parts.flows a.parts.rows.now a.parts.records.now a.parts.steps.now (record { slot = 0; done = place_of a.run.flows }) c.args.parts.formed loop.i taken loop.set loop.places loop.sent loop.invariant.1 c.take_turn.new.set
                 w.in-Some.step (rw (loop.invariant.0, len) at w.in-Some.ensures))
             | in_default w ↦ rw (w.places-is, w.sent-is)
-                (chosen_waits a.flows a.rows.now a.records.now a.steps.now (record { slot = 0; done = place_of a.run.flows }) c.requires.0 loop.i taken loop.set loop.places loop.sent loop.invariant.1 c.take_turn.new.set
+                (chosen_waits a.parts.flows a.parts.rows.now a.parts.records.now a.parts.steps.now (record { slot = 0; done = place_of a.run.flows }) c.args.parts.formed loop.i taken loop.set loop.places loop.sent loop.invariant.1 c.take_turn.new.set
                 (rw (loop.invariant.0, len) at w.in_default.ensures))
           ]),
     )
@@ -66,6 +66,6 @@ unfolding state_of granted_by greedy unfinished next_step done_now facts_of
 returns c =
     let a = c.args in
     let loop = c.loop-i in
-    let all : loop.i ≡ a.flows = omega arith in
-    let all_made = chosen_all a.flows a.rows.now a.records.now a.steps.now (record { slot = 0; done = place_of a.run.flows }) loop.set loop.places loop.sent (rw all at loop.invariant.1) in
+    let all : loop.i ≡ a.parts.flows = omega arith in
+    let all_made = chosen_all a.parts.flows a.parts.rows.now a.parts.records.now a.parts.steps.now (record { slot = 0; done = place_of a.run.flows }) loop.set loop.places loop.sent (rw all at loop.invariant.1) in
     record { goes = all_made.goes; size = all_made.size; sends = all_made.sends }

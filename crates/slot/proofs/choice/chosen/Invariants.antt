@@ -7,5 +7,5 @@ use Rattle.slot.proofs.choice.chosen.Given as goal
 
 abbrev pub invariant-loop-i : goal.invariant-loop-i
 invariant-loop-i l =
-    (l.start ≡ first_step (facts_in 0 l.flows l.rows l.records l.steps) l.i)
-    × Chosen l.flows l.rows l.records l.steps (record { slot = 0; done = place_of l.run.flows }) l.i l.set l.places l.sent
+    (l.start ≡ first_step (facts_in 0 l.parts.flows l.parts.rows.now l.parts.records.now l.parts.steps.now) l.i)
+    × Chosen l.parts.flows l.parts.rows.now l.parts.records.now l.parts.steps.now (record { slot = 0; done = place_of l.run.flows }) l.i l.set l.places l.sent

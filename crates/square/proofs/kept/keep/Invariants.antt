@@ -6,4 +6,4 @@ use Rattle.square.proofs.KeptLaws.{used, Lines}
 use Rattle.square.proofs.kept.keep.Given as goal
 
 abbrev pub invariant-loop-l : goal.invariant-loop-l
-invariant-loop-l l = Lines (used l.flows (interference (facts_in 0 0 l.rows l.records l.steps))) l.initial.figures (λ j. ltb j l.l) l.figures
+invariant-loop-l l = Lines (used l.parts.flows (interference (facts_in 0 0 l.parts.rows.now l.parts.records.now l.parts.steps.now))) l.initial.figures (λ j. ltb j l.l) l.figures

@@ -1,6 +1,6 @@
 -- `square::kept::kept_answer` looks at line by line. The loop's invariant: no line up to l is wrong. The measure is how many are left.
 -- Assumes nothing.
-use Prim.Native.Nat.{ℕ, ◌+◌}
+use Prim.Native.Nat.{ℕ}
 use mathlib.Core.Path.{◌≡◌, refl, sym, ◌∙◌, ap}
 use mathlib.Core.Bool.{not}
 use mathlib.Core.List.{List}
@@ -11,8 +11,6 @@ use native.Mathlib.Omega.{arith}
 use Rattle.trade.specs.Kept.{Tabled, wrong_line, code17}
 use Rattle.trade.proofs.Answers.{given_first_at, given_first_none}
 use Rattle.pairs.proofs.SpreadLaws.{zeros}
-use Rattle.sections.proofs.FormedLaws.{formed_less}
-use Rattle.figures.proofs.FiguresLaws.{all_heard}
 use Rattle.square.proofs.KeptLaws.{wrong_line_lem}
 use Rattle.square.proofs.kept.kept_answer.Goals as goal
 use Rattle.square.proofs.kept.kept_answer.Invariants.{table}
@@ -21,26 +19,14 @@ use Rattle.square.proofs.kept.kept_answer.Goals.{After-is_line}
 abbrev own : Parts → List ℕ → Tabled
 own p figures = table p.flows p.rows.now p.records.now p.steps.now figures
 
-pub hear_above-requires : goal.hear_above-requires
-hear_above-requires c = record {
-  formed = c.args.parts.formed;
-  heard_len = (refl, λ y h. zeros 64 y);
-}
+pub of-heard-requires : goal.of-heard-requires
+of-heard-requires c = (refl, λ y h. zeros 64 y)
 
 pub loop-l-init : goal.loop-l-init
 loop-l-init c = (omega arith, λ k h. absurd (omega arith))
 
-pub slice_bounds-figures_at-end : goal.slice_bounds-figures_at-end
-slice_bounds-figures_at-end c = sym c.hear_above.ensures.size
-
-pub figures_at-line-requires : goal.figures_at-line-requires
-figures_at-line-requires c =
-    let a = c.args in
-    let l : ℕ = c.loop-l.l in
-    let heard = c.hear_above.ensures in record {
-      formed = formed_less (l + 1) a.parts.flows a.parts.rows.now a.parts.records.now a.parts.steps.now (omega arith) a.parts.formed;
-      most_nodes_in_bounds = (omega (arith, heard.size), all_heard a.parts.flows l a.parts.rows.now a.parts.records.now a.parts.steps.now _ a.parts.formed (omega arith) heard);
-    }
+pub figures_at-requires : goal.figures_at-requires
+figures_at-requires c = rw c.of-heard.ensures.parts (omega arith)
 
 pub is_line-requires : goal.is_line-requires
 is_line-requires c = (c.requires, omega (arith, c.args.parts.formed.most))
@@ -49,7 +35,7 @@ is_line-requires c = (c.requires, omega (arith, c.args.parts.formed.most))
 right : (c : After-is_line) → c.is_line.result ≡ not (wrong_line (own c.args.parts c.args.figures.now) c.loop-l.l)
 right c =
     let a = c.args in
-    rw c.figures_at-line.ensures at c.is_line.ensures
+    rw (rw c.of-heard.ensures.parts at c.figures_at.ensures) at c.is_line.ensures
     ∙ ap not (wrong_line_lem a.parts.flows a.parts.rows.now a.parts.records.now a.parts.steps.now a.figures.now c.loop-l.l)
 
 pub returns-then-not-is_line : goal.returns-then-not-is_line

@@ -11,7 +11,7 @@ use Rattle.numbers.proofs.PastingLaws.{over_zeros}
 use Rattle.table.proofs.table.table_of.Goals as goal
 
 pub keep-requires : goal.keep-requires
-keep-requires c = (c.requires.formed, refl)
+keep-requires c = refl
 
 -- what is copied to the front of zeros has zeros behind it
 copied : (room : ℕ) (src part : List ℕ) → part ≡ src → part ++ drop (length src) (replicate room 0) ≡ padded room src

@@ -1,28 +1,15 @@
 -- The costs that are worked out are the interference of the flows above, which no plan is longer than. Assumes nothing.
-use Prim.Native.Nat.{ℕ, ◌+◌, ◌<◌}
+use Prim.Native.Nat.{ℕ, ◌<◌}
 use mathlib.Core.Path.{◌≡◌}
 use lib.ListN.{get_or}
 use native.Mathlib.Omega.{arith}
 use Rattle.trade.specs.Limits.{most_flows}
 use Rattle.trade.specs.Facts.{facts_in}
 use Rattle.trade.specs.Interference.{interference}
-use Rattle.sections.proofs.FormedLaws.{formed_less}
-use Rattle.figures.proofs.FiguresLaws.{all_heard, interference_most}
+use Rattle.figures.proofs.FiguresLaws.{interference_most}
 use Rattle.figures.proofs.Padded.{filled_at}
-use Rattle.bounds.proofs.worked.WorkedCosts.line.Goals as goal
-use Rattle.bounds.proofs.worked.WorkedCosts.line.Goals.{After-figures_at}
-
-pub figures_at-requires : goal.figures_at-requires
-figures_at-requires c =
-    let s = c.args.self.now in
-    let p = s.parts in
-    record {
-      formed = formed_less (c.args.l + 1) p.flows p.rows.now p.records.now p.steps.now (omega arith) p.formed;
-      most_nodes_in_bounds = (
-        omega (arith, s.hears.size),
-        all_heard p.flows c.args.l p.rows.now p.records.now p.steps.now _ p.formed (omega arith) s.hears,
-      );
-    }
+use Rattle.bounds.proofs.worked.HeardCosts.line.Goals as goal
+use Rattle.bounds.proofs.worked.HeardCosts.line.Goals.{After-figures_at}
 
 figure :
     (c : After-figures_at)

@@ -82,6 +82,17 @@ module _ (rows plan before once : List ℕ) (short : length plan ≤ length once
       (λ i e. omega (arith, once_steps, ap (singles plan) e, singles_some plan i)) some
       (omega (arith, singles_new plan 0 refl, singles_none plan))
 
+-- what is heard of the flows above l is heard of those above each that stands above it: of the first l + 1 flows a `Heard` asks no more
+-- than this
+pub heard_above :
+    (l : ℕ) (rows records steps heard : List ℕ)
+    → AllHeard l rows records steps heard
+    → (m : ℕ)
+    → m < l + 1
+    → AllHeard m rows records steps heard
+heard_above l rows records steps heard all m p h j q s =
+    all h j (omega (arith, p, q)) s
+
 -- the figures that the columns of a plan give are those of its flow
 pub figure_columns :
     (k : ℕ) (rows heard records steps before once columns : List ℕ) (l : ℕ)

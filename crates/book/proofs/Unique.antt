@@ -1,10 +1,13 @@
 -- Each public function's contract leaves one result, and one content of what it was lent. The contracts are those that the check
 -- reads in the code, `Post`. Assumes nothing.
-use mathlib.Core.Path.{◌≡◌}
-use Rattle.std.specs.Prelude.{Ok}
+use mathlib.Core.Path.{◌≡◌, ap, sym, ◌∙◌}
+use Rattle.std.specs.Prelude.{Result, Ok, Err}
 use Rattle.std.proofs.lemmas.Result.{IfOk-at_ok}
 use Rattle.trade.specs.Refusals.{tested}
+use Rattle.trade.specs.declared.answer.Answer.{Answer}
+use Rattle.trade.specs.declared.refusal.Refusal.{Refusal}
 use Rattle.trade.proofs.Unique.{OneResult, one_result}
+use Rattle.trade.proofs.Refusals.{refuses, one_refusal}
 use Rattle.sections.specs.Parts.{sections_held}
 use Rattle.sections.specs.declared.parts.Parts.{Parts}
 use Rattle.book.proofs.parts.is_miscounted.Kinds as is_miscounted_kinds
@@ -17,14 +20,24 @@ use Rattle.book.proofs.parts.steps_of.Reads as steps_of
 pub is_miscounted_unique : OneResult 0 is_miscounted_kinds.ps is_miscounted_kinds.r is_miscounted.Post
 is_miscounted_unique κs a r r' s s' p q = one_result p q
 
--- what is opened has one answer, and its parts hold one row of sections
+-- of two tests with one answer, where one refuses the other gives the same refusal
+pub same_refusal : {A : Type 0} (r r' : Result A Refusal) → tested r ≡ tested r' → (d : Refusal) → r ≡ Err d → r' ≡ Err d
+same_refusal r (Ok x) e d is = absurd (refuses d (ap (λ (a : Answer). a.code) (sym (ap tested is) ∙ e)))
+same_refusal r (Err d') e d is = ap Err (one_refusal (sym e ∙ ap tested is))
+
+-- what is opened has one answer and one refusal, and its parts hold one row of sections
 pub open_book_unique :
     (κs : _) (a : _) (r r' : _) (s s' : _)
     → open_book.Post κs a r s
     → open_book.Post κs a r' s'
-    → (tested r ≡ tested r') × ((p p' : Parts) → r ≡ Ok p → r' ≡ Ok p' → sections_held p ≡ sections_held p')
-open_book_unique κs a r r' s s' p q =
-    (one_result p.0 q.0, λ x y e e'. one_result (IfOk-at_ok _ e p.1) (IfOk-at_ok _ e' q.1))
+    → (tested r ≡ tested r')
+    × ((p p' : Parts) → r ≡ Ok p → r' ≡ Ok p' → sections_held p ≡ sections_held p')
+    × ((d : Refusal) → r ≡ Err d → r' ≡ Err d)
+open_book_unique κs a r r' s s' p q = (
+  one_result p.0 q.0,
+  λ x y e e'. one_result (IfOk-at_ok _ e p.1) (IfOk-at_ok _ e' q.1),
+  same_refusal r r' (one_result p.0 q.0),
+)
 
 -- a part is lent on: what it holds is one list
 pub rows_of_unique : (κs : _) (a : _) (r r' : _) (s s' : _) → rows_of.Post κs a r s → rows_of.Post κs a r' s' → r.now ≡ r'.now

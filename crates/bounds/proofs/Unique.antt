@@ -9,6 +9,8 @@ use Rattle.trade.proofs.Unique.{OneResult, one_result}
 use Rattle.trade.proofs.Refusals.{refuses, one_refusal}
 use Rattle.bounds.specs.Bounds.{checked_by}
 use Rattle.bounds.specs.declared.bounds.Checked.{Checked}
+use Rattle.bounds.proofs.bounds.CheckedFromResultBoundsRefusal.from.Kinds as from_kinds
+use Rattle.bounds.proofs.bounds.CheckedFromResultBoundsRefusal.from.Reads as from
 use Rattle.bounds.proofs.bounds.bounds_of.Kinds as bounds_of_kinds
 use Rattle.bounds.proofs.bounds.bounds_of.Reads as bounds_of
 use Rattle.bounds.proofs.kept.bounds_with.Kinds as bounds_with_kinds
@@ -24,6 +26,9 @@ one_row (Ok b) (Ok b') e = ap (λ (c : Checked). Ok c.bounds) e
 one_row (Ok b) (Err d) e = absurd (refuses d (sym (ap (λ (c : Checked). c.answer.code) e)))
 one_row (Err d) (Ok b) e = absurd (refuses d (ap (λ (c : Checked). c.answer.code) e))
 one_row (Err d) (Err d') e = ap Err (one_refusal (ap (λ (c : Checked). c.answer) e))
+
+pub checked_from_unique : OneResult 0 from_kinds.ps from_kinds.r from.Post
+checked_from_unique κs a r r' s s' p q = one_result p q
 
 pub bounds_of_unique : OneResult 1 bounds_of_kinds.ps bounds_of_kinds.r bounds_of.Post
 bounds_of_unique κs a r r' s s' p q = one_row r r' (one_result p q)

@@ -20,6 +20,10 @@ use Rattle.trade.proofs.limits.all_limits.Kinds as all_limits_kinds
 use Rattle.trade.proofs.limits.all_limits.Reads as all_limits
 use Rattle.trade.proofs.refusal.Refusal.answer.Kinds as refusal_answer_kinds
 use Rattle.trade.proofs.refusal.Refusal.answer.Reads as refusal_answer
+use Rattle.trade.proofs.refusal.AnswerFromResultUnitRefusal.from.Kinds as test_kinds
+use Rattle.trade.proofs.refusal.AnswerFromResultUnitRefusal.from.Reads as test
+use Rattle.trade.proofs.refusal.AnswerFromResultUsizeRefusal.from.Kinds as count_kinds
+use Rattle.trade.proofs.refusal.AnswerFromResultUsizeRefusal.from.Reads as count
 
 -- of two results that meet a contract on the same arguments, over its parameters' and its result's kinds, one is the other
 abbrev pub OneResult : (n : ℕ) (ps : List (ParamKind n)) (k : ResultKind n) → Out n ps k → Type 0
@@ -52,3 +56,9 @@ all_limits_unique κs a r r' s s' p q = one_result p q
 
 pub refusal_answer_unique : OneResult 0 refusal_answer_kinds.ps refusal_answer_kinds.r refusal_answer.Post
 refusal_answer_unique κs a r r' s s' p q = one_result p q
+
+pub test_from_unique : OneResult 0 test_kinds.ps test_kinds.r test.Post
+test_from_unique κs a r r' s s' p q = one_result p q
+
+pub count_from_unique : OneResult 0 count_kinds.ps count_kinds.r count.Post
+count_from_unique κs a r r' s s' p q = one_result p q

@@ -63,14 +63,6 @@ impl Refusal {
     }
 }
 
-impl From<Refusal> for Answer {
-    ghost from_gives = { λ refusal answer. answer ≡ answer_of refusal };
-
-    fn from(refusal: Refusal) -> Answer {
-        refusal.answer()
-    }
-}
-
 // Done, or refused.
 impl From<Result<(), Refusal>> for Answer {
     ghost from_gives = { λ tried answer. answer ≡ tested tried };

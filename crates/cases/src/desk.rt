@@ -72,13 +72,13 @@ impl Desk {
     }
 
     pub(crate) fn write(&mut self, n: usize) {
-        self.answer = write(self.table, last(&mut self.room, n));
+        self.answer = write(self.table, last(&mut self.room, n)).into();
         self.keep(n);
     }
 
     pub(crate) fn compare(&mut self, book: &[u8]) {
         let mut written = [0u8; ROOM];
-        write(self.table, &mut written);
+        let _ = write(self.table, &mut written);
         self.answer = Answer::done(agreeing(book, &written) as u64);
     }
 
@@ -110,12 +110,12 @@ impl Desk {
     }
 
     pub(crate) fn start(&mut self, book: &[u8], n: usize) {
-        self.answer = start(book, last(&mut self.area, n));
+        self.answer = start(book, last(&mut self.area, n)).into();
     }
 
     pub(crate) fn advance(&mut self, book: &[u8], n: usize, k: usize) {
         let mut grants = [0u8; GRANTS];
-        self.answer = advance(book, last(&mut self.area, n), last(&mut grants, k));
+        self.answer = advance(book, last(&mut self.area, n), last(&mut grants, k)).into();
     }
 
     pub(crate) fn done(&mut self, at: usize, n: u8) {

@@ -24,11 +24,11 @@ fn list_bounds(rt: &impl Print, parts: Parts, bounds: &Bounds) -> io::Result<()>
 fn list_grants(
     rt: &impl Print,
     slot: Slot,
-    count: u64,
+    count: usize,
     grants: &[u8; Flow::MOST * Grant::BYTES],
 ) -> io::Result<()> {
     let (grants, _) = grants.as_chunks::<{ Grant::BYTES }>();
-    for grant in grants.iter().take(count as usize) {
+    for grant in grants.iter().take(count) {
         print_grant(rt, slot, grant)?;
     }
     Ok(())
@@ -38,13 +38,14 @@ fn list_grants(
 fn list_run(rt: &impl Print, book: &[u8]) -> io::Result<()> {
     let mut area = [0u8; Run::AREA_BYTES];
     let mut grants = [0u8; Flow::MOST * Grant::BYTES];
-    start(book, &mut area);
+    if let Err(refusal) = start(book, &mut area) {
+        return print_refusal(rt, refusal);
+    }
     for slot in 0..SLOTS {
-        let answer = advance(book, &mut area, &mut grants);
-        if answer.code != 0 {
-            return print_refusal(rt, answer);
+        match advance(book, &mut area, &mut grants) {
+            Ok(count) => list_grants(rt, Slot(slot), count, &grants)?,
+            Err(refusal) => return print_refusal(rt, refusal),
         }
-        list_grants(rt, Slot(slot), answer.number, &grants)?;
     }
     Ok(())
 }
@@ -53,11 +54,11 @@ fn list_run(rt: &impl Print, book: &[u8]) -> io::Result<()> {
 pub fn list(rt: &impl Print, book: &[u8]) -> io::Result<()> {
     let parts = match open_book(book) {
         Ok(parts) => parts,
-        Err(refusal) => return print_refusal(rt, refusal.answer()),
+        Err(refusal) => return print_refusal(rt, refusal),
     };
     let bounds = match bounds_of(parts) {
         Ok(bounds) => bounds,
-        Err(refusal) => return print_refusal(rt, refusal.answer()),
+        Err(refusal) => return print_refusal(rt, refusal),
     };
     print_book(rt, parts.nodes, parts.flows)?;
     list_bounds(rt, parts, &bounds)?;

@@ -57,9 +57,8 @@ fn tell_run(
     let mut grants = [0u8; Flow::MOST * Grant::BYTES];
     for slot in 0..slots {
         tell_slot(rt, book, parts, area, Slot(slot))?;
-        let answer = advance(book, area, &mut grants);
-        if answer.code != 0 {
-            return print_refusal(rt, answer);
+        if let Err(refusal) = advance(book, area, &mut grants) {
+            return print_refusal(rt, refusal);
         }
     }
     Ok(())
@@ -69,12 +68,11 @@ fn tell_run(
 pub(crate) fn tell(rt: &impl Print, book: &[u8], slots: u32) -> io::Result<()> {
     let parts = match open_book(book) {
         Ok(parts) => parts,
-        Err(refusal) => return print_refusal(rt, refusal.answer()),
+        Err(refusal) => return print_refusal(rt, refusal),
     };
     let mut area = [0u8; Run::AREA_BYTES];
-    let started = start(book, &mut area);
-    if started.code != 0 {
-        return print_refusal(rt, started);
+    if let Err(refusal) = start(book, &mut area) {
+        return print_refusal(rt, refusal);
     }
     print_book(rt, parts.nodes, parts.flows)?;
     tell_run(rt, book, parts, &mut area, slots)

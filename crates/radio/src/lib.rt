@@ -7,21 +7,20 @@ ghost use Rattle.radio.specs.Calls.{AnswersCheck, AnswersStart, AnswersAdvance};
 use bounds::acceptance::check;
 use run::advance::advance;
 use run::start::start;
+use trade::Answer;
 
 // CHECK a book.
 pub fn slot_check(book: &[u8]) -> u32
     ensures { AnswersCheck book.now result }
 {
-    let checked = check(book);
-    let answer = checked.answer;
-    answer.packed()
+    check(book).answer.packed()
 }
 
 // START a run of a book, in a lent run area.
 pub fn slot_start(book: &[u8], area: &mut [u8]) -> u32
     ensures { AnswersStart (record { book = book.entry.now; area = area.old }) result area.new }
 {
-    let answer = start(book, area);
+    let answer = Answer::from(start(book, area));
     answer.packed()
 }
 
@@ -30,6 +29,6 @@ pub fn slot_advance(book: &[u8], area: &mut [u8], grants: &mut [u8]) -> u32
     ensures { AnswersAdvance (record { book = book.entry.now; area = area.old; grants = grants.old }) result
         area.new grants.new }
 {
-    let answer = advance(book, area, grants);
+    let answer = Answer::from(advance(book, area, grants));
     answer.packed()
 }

@@ -49,7 +49,7 @@ fn answer_write(rt: &impl Print, reader: &mut impl Read, room: &mut [u8]) -> io:
         return Ok(false);
     };
     let buffer = &mut room[..len];
-    let answer = write(table, buffer);
+    let answer = write(table, buffer).into();
     put_answer(rt, answer)?;
     rt.write_all(buffer)?;
     Ok(true)

@@ -11,7 +11,7 @@ use book::parts::open_book;
 use sections::parts::Parts;
 use slot::choice::chosen;
 use slot::granting::grant_all;
-use trade::{Answer, Grant, Refusal, Run};
+use trade::{Grant, Refusal, Run};
 
 // One slot over the sections of a book: codes 10, 12 and 11 are tested before anything is written. Then the slot's grants go into one
 // buffer, and the run as it goes on into the other. How many grants there are.
@@ -28,8 +28,8 @@ fn run_slot(parts: Parts, area: &mut [u8], grants: &mut [u8]) -> Result<usize, R
     Ok(out.count)
 }
 
-// Codes 1 to 8 and 13, then those of the slot.
-fn run_book(book: &[u8], area: &mut [u8], grants: &mut [u8]) -> Result<usize, Refusal>
+// ADVANCE: codes 1 to 8 and 13, then those of the slot. The count of grants, or why the call is refused, which leaves both buffers as lent.
+pub fn advance(book: &[u8], area: &mut [u8], grants: &mut [u8]) -> Result<usize, Refusal>
     ensures { Advances (record { book = book.entry.now; area = area.old; grants = grants.old }) (answered (λ n. n) result)
         area.new grants.new }
 {
@@ -41,12 +41,4 @@ fn run_book(book: &[u8], area: &mut [u8], grants: &mut [u8]) -> Result<usize, Re
         return Err(Refusal::NoRoom);
     }
     run_slot(parts, area, grants)
-}
-
-// ADVANCE: the count of grants, or why the call is refused, which leaves both buffers as lent.
-pub fn advance(book: &[u8], area: &mut [u8], grants: &mut [u8]) -> Answer
-    ensures { Advances (record { book = book.entry.now; area = area.old; grants = grants.old }) result
-        area.new grants.new }
-{
-    run_book(book, area, grants).into()
 }

@@ -8,7 +8,7 @@ use book::parts::open_book;
 use bounds::bounds::bounds_of;
 use sections::parts::Parts;
 use sections::records::len_at;
-use trade::{Answer, Progress, Refusal, Run};
+use trade::{Progress, Refusal, Run};
 
 // A run about to run slot 0, with every flow idle and every other place 0.
 fn started(parts: Parts) -> Run
@@ -21,8 +21,8 @@ fn started(parts: Parts) -> Run
     run
 }
 
-// Codes 1 to 8, 9 and 13 are tested before anything is written.
-fn start_book(book: &[u8], area: &mut [u8]) -> Result<(), Refusal>
+// START: codes 1 to 8, 9 and 13 are tested before anything is written. Done, or why the call is refused, which leaves the area as lent.
+pub fn start(book: &[u8], area: &mut [u8]) -> Result<(), Refusal>
     ensures { Starts (record { book = book.entry.now; area = area.old }) (tested result) area.new }
 {
     let parts = open_book(book)?;
@@ -32,11 +32,4 @@ fn start_book(book: &[u8], area: &mut [u8]) -> Result<(), Refusal>
     }
     write_run(area, started(parts));
     Ok(())
-}
-
-// START: done, or why the call is refused, which leaves the area as lent.
-pub fn start(book: &[u8], area: &mut [u8]) -> Answer
-    ensures { Starts (record { book = book.entry.now; area = area.old }) result area.new }
-{
-    start_book(book, area).into()
 }

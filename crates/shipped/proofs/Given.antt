@@ -1,6 +1,6 @@
 -- The calls that ship are no empty relations: for whatever a call is handed, something is given that meets its contract. Assumes nothing.
 use Prim.Native.Nat.{ℕ}
-use mathlib.Core.Path.{refl}
+use mathlib.Core.Path.{refl, sym}
 use mathlib.Core.List.{List, []}
 use base.Fml.{Lft}
 use denote.Bor.{Bor}
@@ -13,6 +13,7 @@ use Rattle.trade.specs.Why.{Asking, ask_of, answer_of}
 use Rattle.trade.specs.declared.told.Told.{Told}
 use Rattle.table.specs.declared.table.Table.{Table}
 use Rattle.promise.specs.Demands.{Answers}
+use Rattle.shipped.proofs.Known.{start_tried, advance_counted, write_counted}
 use Rattle.shipped.specs.Calls.{Read, Check, CheckTable, Write, Add, Remove, Start, Advance, Why, SlotCheck, SlotWhy, shipped, for_c, with_run}
 
 -- a list that is lent to be read, one that is lent to be written, and a table of counts and sections
@@ -50,7 +51,8 @@ module _ (κ : Lft) where
   write_given : (w : Writing) → Write w (write_of w)
   unfolding handed held figured
   write_given w =
-      ((κ, tt), (held (figured w.table), (handed w.buffer, tt)), (write_of w).answer, (held (figured w.table), (handed (write_of w).buffer, tt)), record { answer = refl; buffer = refl }, refl, refl)
+      let (r, e) = write_counted w in
+      ((κ, tt), (held (figured w.table), (handed w.buffer, tt)), r, (held (figured w.table), (handed (write_of w).buffer, tt)), record { answer = e; buffer = refl }, refl, λ t. record { answer = sym e t; buffer = (write_of w).buffer })
 
   add_given : (a : Adding) → Add a (add_of a)
   unfolding held
@@ -65,12 +67,14 @@ module _ (κ : Lft) where
   start_given : (i : Starting) → Start i (start_of i)
   unfolding lent handed
   start_given i =
-      ((κ, (κ, tt)), (lent i.book, (handed i.area, tt)), (start_of i).answer, (lent i.book, (handed (start_of i).area, tt)), record { answer = refl; area = refl }, refl, refl)
+      let (r, e) = start_tried i in
+      ((κ, (κ, tt)), (lent i.book, (handed i.area, tt)), r, (lent i.book, (handed (start_of i).area, tt)), record { answer = e; area = refl }, refl, λ t. record { answer = sym e t; area = (start_of i).area })
 
   advance_given : (i : Advancing) → Advance i (advance_of i)
   unfolding lent handed
   advance_given i =
-      ((κ, (κ, (κ, tt))), (lent i.book, (handed i.area, (handed i.grants, tt))), (advance_of i).answer, (lent i.book, (handed (advance_of i).area, (handed (advance_of i).grants, tt))), record { answer = refl; area = refl; grants = refl }, refl, refl)
+      let (r, e) = advance_counted i in
+      ((κ, (κ, (κ, tt))), (lent i.book, (handed i.area, (handed i.grants, tt))), r, (lent i.book, (handed (advance_of i).area, (handed (advance_of i).grants, tt))), record { answer = e; area = refl; grants = refl }, refl, λ t. record { answer = sym e t; area = (advance_of i).area; grants = (advance_of i).grants })
 
   why_given : (i : Asking) → Why i (ask_of i)
   unfolding lent

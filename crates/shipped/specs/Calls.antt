@@ -4,6 +4,7 @@
 use Rattle.std.specs.Prelude.{ℕ, ◌/◌, ◌%◌, ◌≡◌, List}
 use Rattle.trade.specs.Limits.{packing}
 use Rattle.trade.specs.Calls.{Got, Checked, Writing, Written, Adding, Removing, Changed, Starting, Started, Advancing, Advanced, check_of}
+use Rattle.trade.specs.Refusals.{answered, tested}
 use Rattle.trade.specs.Why.{Asking}
 use Rattle.trade.specs.declared.answer.Answer.{Answer}
 use Rattle.trade.specs.declared.told.Told.{Told}
@@ -52,7 +53,7 @@ Write w given =
     (κs : _) × (a : _) × (r : _) × (s : _)
     × write.Post κs a r s
     × (w ≡ record { table = sections_in a.0; buffer = a.1.0.now })
-    × (given ≡ record { answer = r; buffer = s.1.0.now })
+    × (given ≡ record { answer = answered (λ len. len) r; buffer = s.1.0.now })
 
 abbrev pub Add : Adding → Changed → Type 0
 Add i given =
@@ -73,14 +74,14 @@ Start i given =
     (κs : _) × (a : _) × (r : _) × (s : _)
     × start.Post κs a r s
     × (i ≡ record { book = a.0.now; area = a.1.0.now })
-    × (given ≡ record { answer = r; area = s.1.0.now })
+    × (given ≡ record { answer = tested r; area = s.1.0.now })
 
 abbrev pub Advance : Advancing → Advanced → Type 0
 Advance i given =
     (κs : _) × (a : _) × (r : _) × (s : _)
     × advance.Post κs a r s
     × (i ≡ record { book = a.0.now; area = a.1.0.now; grants = a.1.1.0.now })
-    × (given ≡ record { answer = r; area = s.1.0.now; grants = s.1.1.0.now })
+    × (given ≡ record { answer = answered (λ n. n) r; area = s.1.0.now; grants = s.1.1.0.now })
 
 -- the calls on tables, with a check, a start and an advance
 abbrev pub with_run : (List ℕ → Checked → Type 0) → (Starting → Started → Type 0) → (Advancing → Advanced → Type 0) → Program

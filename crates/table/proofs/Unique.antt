@@ -5,6 +5,7 @@ use Rattle.std.specs.Prelude.{Ok}
 use Rattle.std.proofs.lemmas.Result.{IfOk-at_ok}
 use Rattle.trade.specs.Refusals.{tested}
 use Rattle.trade.proofs.Unique.{OneResult, one_result}
+use Rattle.trade.proofs.Refusals.{one_number}
 use Rattle.sections.specs.Parts.{sections_held}
 use Rattle.sections.specs.declared.parts.Parts.{Parts}
 use Rattle.table.specs.Table.{kept_in}
@@ -67,4 +68,4 @@ check_table_unique κs a r r' s s' p q =
     λ i. record { answer = one_result p.answer q.answer i; bounds = one_result p.bounds q.bounds i }
 
 pub write_unique : (κs : _) (a : _) (r r' : _) (s s' : _) → write.Post κs a r s → write.Post κs a r' s' → (r ≡ r') × (s.1.0.now ≡ s'.1.0.now)
-write_unique κs a r r' s s' p q = (one_result p.answer q.answer, one_result p.buffer q.buffer)
+write_unique κs a r r' s s' p q = (one_number r r' (one_result p.answer q.answer), one_result p.buffer q.buffer)

@@ -12,7 +12,7 @@ use numbers::numbers::put_word;
 use numbers::pasting::put_at;
 use sections::parts::Parts;
 use sections::records::steps_before;
-use trade::{Answer, Book, Flow, Node, Plan, Refusal};
+use trade::{Book, Flow, Node, Plan, Refusal};
 
 // The ten bytes of a trailer.
 fn trailer_bytes(
@@ -77,9 +77,10 @@ fn write_table(t: &Table, buffer: &mut [u8]) -> Result<usize, Refusal>
     Ok(len)
 }
 
-// WRITE: codes 3, 5, 6 and 8 on the table, then 13; the book at the front of the lent buffer, and nothing beyond it touched.
-pub fn write(t: Table, buffer: &mut [u8]) -> Answer
-    ensures { Writes (sections_in t) buffer.old result buffer.new }
+// WRITE: codes 3, 5, 6 and 8 on the table, then 13; the book at the front of the lent buffer, and nothing beyond it touched. Its length, or why
+// the call is refused.
+pub fn write(t: Table, buffer: &mut [u8]) -> Result<usize, Refusal>
+    ensures { Writes (sections_in t) buffer.old (answered (λ len. len) result) buffer.new }
 {
-    write_table(&t, buffer).into()
+    write_table(&t, buffer)
 }

@@ -1,4 +1,4 @@
--- `run::start::start_book` meets its contract: the rules of check and then 13 are tested, and where all pass every flow is idle. Assumes nothing.
+-- `run::start::start` meets its contract: the rules of check and then 13 are tested, and where all pass every flow is idle. Assumes nothing.
 use Prim.Native.Nat.{ℕ}
 use mathlib.Core.Path.{◌≡◌, sym, ◌∙◌, ap, subst}
 use mathlib.Core.List.{List}
@@ -17,8 +17,8 @@ use Rattle.bounds.proofs.CheckLaws.{check_refused, check_passed, said_bounded}
 use Rattle.run.specs.Calls.{Starts}
 use Rattle.run.specs.Idle.{Idle}
 use Rattle.run.proofs.StartLaws.{start_refused, check_refuses, start_short, start_done}
-use Rattle.run.proofs.start.start_book.Goals as goal
-use Rattle.run.proofs.start.start_book.Goals.{In_ok-parts}
+use Rattle.run.proofs.start.start.Goals as goal
+use Rattle.run.proofs.start.start.Goals.{In_ok-parts}
 
 abbrev coded : Answer → ℕ
 coded a = a.code

@@ -1,4 +1,4 @@
--- `run::advance::run_book` tests the rules of the book and of lent memory in their order, and leaves the slot its own. Assumes nothing.
+-- `run::advance::advance` tests the rules of the book and of lent memory in their order, and leaves the slot its own. Assumes nothing.
 use Prim.Native.Nat.{ℕ, ◌*◌, ◌≤◌}
 use mathlib.Core.Path.{◌≡◌, sym, ◌∙◌, ap, subst}
 use native.Mathlib.Omega.{arith}
@@ -12,8 +12,8 @@ use Rattle.trade.specs.declared.answer.Answer.{Answer}
 use Rattle.trade.proofs.Refusals.{refuses, number_handed_on}
 use Rattle.run.specs.Calls.{RunsSlot, Advances}
 use Rattle.run.proofs.AdvanceLaws.{advance_refused, book_refused, area_short, grants_short, slot_advances}
-use Rattle.run.proofs.advance.run_book.Goals as goal
-use Rattle.run.proofs.advance.run_book.Goals.{In_ok-parts}
+use Rattle.run.proofs.advance.advance.Goals as goal
+use Rattle.run.proofs.advance.advance.Goals.{In_ok-parts}
 
 -- the book passed, and its flows are those of the parts
 passed : (c : In_ok-parts) → (read_answer c.args.book.now).code ≡ 0

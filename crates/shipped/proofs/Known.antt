@@ -108,7 +108,6 @@ unfolding code10 given_first
 area_tried f r s = at (ltb end_of_clock s.slot)
   where
     at : (past : Bool) → Tried (cond past (refused 10 0) (given_first 10 (bad_place f r s) most_flows))
-    unfolding given_first
     at true = (Err (BadArea 0), refl)
     at false = tried (BadArea _) 10 _ refl _
 

@@ -7,7 +7,7 @@ use Rattle.radio.proofs.slot_check.Goals as goal
 
 pub packed-requires : goal.packed-requires
 unfolding check_by
-packed-requires c = fits c.check-checked.ensures.answer (check_number measure _)
+packed-requires c = fits c.check.ensures.answer (check_number measure _)
 
 pub returns : goal.returns
-returns c = record { answer = packs c.packed.ensures c.check-checked.ensures.answer }
+returns c = record { answer = packs c.packed.ensures c.check.ensures.answer }

@@ -9,6 +9,7 @@ use native.Mathlib.Nat.{add-zero}
 use native.Mathlib.Numerals.{add-one}
 use native.Mathlib.Omega.{arith}
 use lib.Dec.{eqb}
+use mir.Val.{bool_byte}
 use borrow.Author.Tests.{eq-eqb, ne_eqb, eqb-true, lt-leb}
 use Rattle.trade.specs.Limits.{step_bytes}
 use Rattle.trade.specs.Bytes.{byte}
@@ -39,6 +40,12 @@ off_alone steps = rw (unjoined_self (step_in steps 0)) (or-false (own (step_in s
 misplaced_own : (n : ℕ) (t : Transmission) → t.sender.0 < n → t.receiver.0 < n → misplaced n t ≡ own t
 unfolding misplaced own
 misplaced_own n t s r = rw (lt-leb n t.sender.0 s, lt-leb n t.receiver.0 r) refl
+
+-- a test as a number
+pub counted : (b : Bool) → (bool_byte b ≡ one b) × (bool_byte b ≤ 1)
+unfolding one
+counted true = (refl, omega arith)
+counted false = (refl, omega arith)
 
 -- two numbers of two bytes are equal if both bytes are
 pub both_equal : (a b : ℕ) → eqb a b ≡ (eqb (a % 256) (b % 256) && eqb (a / 256) (b / 256))

@@ -15,7 +15,7 @@ use mathlib.Core.Bool.{Bool, true, false, ◌||◌}
 use mathlib.Core.Logic.{⊎_elim}
 use lib.Dec.{eqb}
 use lib.Seq.{get_or-set_same, get_or-set_other}
-use borrow.Author.Tests.{eq-eqb, ne_eqb, eqb-true, eqb-false}
+use borrow.Author.Tests.{ne_eqb, eqb-true, eqb-false}
 use Rattle.trade.specs.First.{some}
 use Rattle.trade.specs.Codes.{outside, bad_record}
 use Rattle.trade.proofs.First.{bool_cases, not_both, lt_or_ge, some_none}
@@ -50,26 +50,26 @@ bad_record_lem records i =
 
 -- marks at the lower bytes of the ids before record i: where there is none at its own, no earlier id is its own
 pub unmet :
-    (marks records : List ℕ) (i : ℕ)
-    → ((k : ℕ) → k < i → get_or marks (field records k 0 % 256) 0 ≡ 1)
-    → eqb (get_or marks (field records i 0 % 256) 0) 1 ≡ false
+    (marks : List Bool) (records : List ℕ) (i : ℕ)
+    → ((k : ℕ) → k < i → get_or marks (field records k 0 % 256) false ≡ true)
+    → get_or marks (field records i 0 % 256) false ≡ false
     → some (λ j. eqb (field records j 0) (field records i 0)) i ≡ false
 unmet marks records i marked none =
     some_none (λ j. eqb (field records j 0) (field records i 0)) i
     (λ j h.
     ne_eqb (field records j 0) (field records i 0)
     (λ (e : field records j 0 ≡ field records i 0).
-    let mark : get_or marks (field records i 0 % 256) 0 ≡ 1 = rw e at (marked j h) in
-    not_both (eq-eqb (get_or marks (field records i 0 % 256) 0) 1 mark) none))
+    let mark : get_or marks (field records i 0 % 256) false ≡ true = rw e at (marked j h) in
+    not_both mark none))
 
 -- and one more mark
 pub mark_more :
-    (marks records : List ℕ) (i : ℕ)
+    (marks : List Bool) (records : List ℕ) (i : ℕ)
     → length marks ≡ 256
-    → ((k : ℕ) → k < i → get_or marks (field records k 0 % 256) 0 ≡ 1)
+    → ((k : ℕ) → k < i → get_or marks (field records k 0 % 256) false ≡ true)
     → (k : ℕ)
     → k < i + 1
-    → get_or (set marks (field records i 0 % 256) 1) (field records k 0 % 256) 0 ≡ 1
+    → get_or (set marks (field records i 0 % 256) true) (field records k 0 % 256) false ≡ true
 mark_more marks records i room marked k h = ⊎_elim same other (bool_cases (eqb (field records k 0 % 256) (field records i 0 % 256)))
   where
     below : (a b : ℕ) → a < b + 1 → (a ≡ b → ⊥) → a < b
@@ -77,17 +77,17 @@ mark_more marks records i room marked k h = ⊎_elim same other (bool_cases (eqb
 
     same :
         eqb (field records k 0 % 256) (field records i 0 % 256) ≡ true
-        → get_or (set marks (field records i 0 % 256) 1) (field records k 0 % 256) 0 ≡ 1
+        → get_or (set marks (field records i 0 % 256) true) (field records k 0 % 256) false ≡ true
     same e =
         rw (eqb-true (field records k 0 % 256) (field records i 0 % 256) e)
-        (get_or-set_same marks (field records i 0 % 256) 1 0 (omega arith))
+        (get_or-set_same marks (field records i 0 % 256) true false (omega arith))
 
     other :
         eqb (field records k 0 % 256) (field records i 0 % 256) ≡ false
-        → get_or (set marks (field records i 0 % 256) 1) (field records k 0 % 256) 0 ≡ 1
+        → get_or (set marks (field records i 0 % 256) true) (field records k 0 % 256) false ≡ true
     other e =
         let apart = eqb-false (field records k 0 % 256) (field records i 0 % 256) e in
-        get_or-set_other marks (field records i 0 % 256) (field records k 0 % 256) 1 0 apart
+        get_or-set_other marks (field records i 0 % 256) (field records k 0 % 256) true false apart
         ∙ marked k (below k i h (λ (q : k ≡ i). apart (ap (λ j. field records j 0 % 256) q)))
 
 -- the first field of a record stands where the record does

@@ -43,22 +43,15 @@ fn is_off(steps: &[u8], k: usize) -> bool
     (sender == step / 256) | !joined
 }
 
-// What a step or a plan adds to a count.
-fn counted(holds: bool) -> u16
-    ensures { (result ≡ one holds) × (result ≤ 1) }
-{
-    u16::from(holds)
-}
-
 // How many of the first steps are off. The first of all follows on from none.
 fn count_off(steps: &[u8], all: usize) -> u16
     requires { (1 ≤ all) × (all ≤ most_flows * most_steps) × (step_bytes * all ≤ length steps.now) }
     ensures { result ≡ sum_to (λ k. one (off steps.now k)) all }
 {
     let first = both_at(steps, 0);
-    let mut count = counted(first % 256 == first / 256);
+    let mut count = u16::from(first % 256 == first / 256);
     for k in 1..all {
-        count += counted(is_off(steps, k));
+        count += u16::from(is_off(steps, k));
     }
     count
 }
@@ -84,8 +77,7 @@ fn starts_anew(steps: &[u8], at: usize, len: usize) -> bool
         return false;
     }
     let step = both_at(steps, at);
-    let before = if at == 0 { at } else { at - 1 };
-    let last = both_at(steps, before);
+    let last = both_at(steps, at.saturating_sub(1));
     let sender = step % 256;
     let joined = (step == last) | (sender == last / 256);
     (sender != step / 256) & !joined
@@ -102,7 +94,7 @@ fn count_anew(flows: usize, records: &[u8], steps: &[u8]) -> Begun
     let mut anew = 0;
     for i in 0..flows {
         let len = len_at(records, i);
-        anew += counted(starts_anew(steps, all, len));
+        anew += u16::from(starts_anew(steps, all, len));
         all += len;
     }
     Begun { all, anew }

@@ -103,12 +103,12 @@ fn records_in_doubt(flows: usize, records: &[u8]) -> bool
     requires { record_bytes * flows ≤ length records.now }
     ensures { result ≡ false → code6 (facts_in 0 flows [] records.now []) ≡ done 0 }
 {
-    let mut met = [0u8; 256];
+    let mut met = [false; 256];
     let mut bad = false;
     for i in 0..flows {
         let low = (id_at(records, i) % 256) as usize;
-        bad |= is_bad_record(records, i, met[low] == 1);
-        met[low] = 1;
+        bad |= is_bad_record(records, i, met[low]);
+        met[low] = true;
     }
     bad
 }

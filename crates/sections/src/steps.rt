@@ -1,5 +1,5 @@
 // The steps of a book or a table: the plans in flow order with no gap, and code 8.
-ghost use Rattle.std.specs.Prelude.{◌≡◌, [], ◌+◌, ◌*◌, ◌≤◌, ◌<◌, length};
+ghost use Rattle.std.specs.Prelude.{◌≡◌, [], ◌+◌, ◌*◌, ◌≤◌, ◌<◌, length, IfSome, IfNone};
 ghost use Rattle.trade.specs.Limits.{record_bytes, step_bytes, most_flows};
 ghost use Rattle.trade.specs.First.{first, sum_to};
 ghost use Rattle.trade.specs.Layout.{field};
@@ -17,9 +17,9 @@ use trade::{Plan, Refusal, Transmission};
 fn is_misplaced(nodes: usize, t: Transmission) -> bool
     ensures { result ≡ misplaced nodes t }
 {
-    let a = t.sender.0 as usize;
-    let b = t.receiver.0 as usize;
-    (nodes <= a) | (nodes <= b) | (a == b)
+    let sender = t.sender.0 as usize;
+    let receiver = t.receiver.0 as usize;
+    (nodes <= sender) | (nodes <= receiver) | (t.sender == t.receiver)
 }
 
 // Whether a step neither repeats the one before nor starts at its receiver.
@@ -43,17 +43,18 @@ fn is_bad_step(nodes: usize, plan: &[u8], j: usize) -> bool
     is_misplaced(nodes, t) | is_unjoined(t, step_at(plan, j - 1))
 }
 
-// The first bad step of a plan of len steps, which a part of the steps has in front; len where there is none.
-fn first_bad_step(nodes: usize, plan: &[u8], len: usize) -> usize
+// The first bad step of a plan of len steps, which a part of the steps has in front.
+fn first_bad_step(nodes: usize, plan: &[u8], len: usize) -> Option<usize>
     requires { step_bytes * len ≤ length plan.now }
-    ensures { result ≡ first (bad_in_plan nodes plan.now) len }
+    ensures found { IfSome result (λ j. (j < len) × (j ≡ first (bad_in_plan nodes plan.now) len)) }
+    ensures none { IfNone result (len ≤ first (bad_in_plan nodes plan.now) len) }
 {
     for j in 0..len {
         if is_bad_step(nodes, plan, j) {
-            return j;
+            return Some(j);
         }
     }
-    len
+    None
 }
 
 // Code 8 by a search through the plans, one after the other.
@@ -66,8 +67,7 @@ fn searched_steps(nodes: usize, flows: usize, records: &[u8], steps: &[u8]) -> R
     for i in 0..flows {
         let len = len_at(records, i);
         let at = Plan::STEP_BYTES * start;
-        let bad = first_bad_step(nodes, &steps[at..], len);
-        if bad < len {
+        if let Some(bad) = first_bad_step(nodes, &steps[at..], len) {
             return Err(Refusal::BadStep(start + bad));
         }
         start += len;

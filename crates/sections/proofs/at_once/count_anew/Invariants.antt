@@ -1,5 +1,5 @@
 -- `sections::at_once::count_anew` meets its contract: it has counted the plans before i. Assumes nothing.
-use Prim.Native.Nat.{◌-◌, ◌≤◌}
+use Prim.Native.Nat.{◌≤◌}
 use mathlib.Core.Path.{◌≡◌}
 use Rattle.trade.specs.First.{sum_to}
 use Rattle.trade.specs.Layout.{field}
@@ -9,10 +9,6 @@ use Rattle.sections.proofs.at_once.count_anew.Given as goal
 
 abbrev pub invariant-loop-i : goal.invariant-loop-i
 invariant-loop-i l =
-    (l.i ≤ l.flows)
-    × (l.all ≡ sum_to (λ k. field l.records k 4) l.i)
+    (l.all ≡ sum_to (λ k. field l.records k 4) l.i)
     × (l.anew ≤ l.i)
     × (l.anew ≡ sum_to (λ k. one (starts_anew l.records l.steps k)) l.i)
-
-abbrev pub decreases-loop-i : goal.decreases-loop-i
-decreases-loop-i l = l.flows - l.i

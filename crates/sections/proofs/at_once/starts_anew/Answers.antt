@@ -1,25 +1,18 @@
 -- `sections::at_once::starts_anew` meets its contract: a plan with a step has a first one. Assumes nothing.
-use Prim.Native.Nat.{◌-◌}
-use mathlib.Core.Path.{◌≡◌, refl}
-use native.Mathlib.Omega.{arith}
+use mathlib.Core.Path.{refl}
 use borrow.Author.Tests.{eq-eqb, ne_eqb}
 use Rattle.trade.specs.Codes.{repeats, goes_on}
 use Rattle.sections.specs.Steps.{unjoined, own, fresh}
 use Rattle.sections.proofs.AtOnceLaws.{both_equal}
 use Rattle.sections.proofs.at_once.starts_anew.Goals as goal
-use Rattle.sections.proofs.at_once.starts_anew.Goals.{else-at-eq0, then-at-eq0}
 
 pub returns-then-len-eq0 : goal.returns-then-len-eq0
 returns-then-len-eq0 c = rw (eq-eqb _ _ c.if-len-eq0.true) refl
-
-pub both_at-last-requires : goal.both_at-last-requires
-both_at-last-requires c = elim c.if-at-eq0.branch [ then-at-eq0 w ↦ omega arith | else-at-eq0 w ↦ omega arith ]
 
 pub returns : goal.returns
 unfolding fresh own unjoined repeats goes_on
 returns c =
     let a = c.args in
-    let before : c.if-at-eq0.before ≡ a.at - 1 = elim c.if-at-eq0.branch [ then-at-eq0 w ↦ omega arith | else-at-eq0 w ↦ omega arith ] in
     let step = c.both_at-step.ensures in
     let last = c.both_at-last.ensures in
     rw (
@@ -28,6 +21,6 @@ returns c =
       step.1,
       last.0,
       last.1,
-      before,
+      c.saturating_sub.ensures,
       ne_eqb a.len 0 c.if-len-eq0.false,
     ) refl

@@ -2,6 +2,7 @@
 -- marked. Assumes nothing.
 use Prim.Native.Nat.{◌%◌}
 use mathlib.Core.Path.{refl, ◌∙◌, sym}
+use mathlib.Core.Bool.{true}
 use mathlib.Core.List.{[]}
 use borrow.Author.Count.{below_more}
 use native.Mathlib.Omega.{arith}
@@ -14,26 +15,25 @@ use Rattle.sections.proofs.RecordsLaws.{unmet, mark_more}
 use Rattle.sections.proofs.records.records_in_doubt.Goals as goal
 
 pub loop-i-init : goal.loop-i-init
-loop-i-init c = (omega arith, λ e k h. absurd (omega arith), λ k h. absurd (omega arith), refl)
+loop-i-init c = (λ e k h. absurd (omega arith), λ k h. absurd (omega arith), refl)
 
 pub is_bad_record-bad-requires : goal.is_bad_record-bad-requires
 is_bad_record-bad-requires c =
     let loop = c.loop-i in
     let records = c.args.records.now in record {
       record_bytes_in_bounds = omega arith;
-      i_value = λ e. unmet loop.met records loop.i loop.invariant.2 (rw c.id_at.ensures at e);
+      i_value = λ e. unmet loop.met records loop.i loop.invariant.1 (rw c.id_at.ensures at e);
     }
 
 pub loop-i-preserved : goal.loop-i-preserved
 loop-i-preserved c =
     let records = c.args.records.now in
     let loop = c.loop-i in (
-      omega arith,
       λ e.
           let none = or_false loop.bad c.is_bad_record-bad.result e in
-          below_more _ _ (loop.invariant.1 none.0) (sym c.is_bad_record-bad.ensures ∙ none.1),
-      rw c.id_at.ensures (mark_more loop.met records loop.i loop.invariant.3 loop.invariant.2),
-      length-set loop.met (c.id_at.result % 256) 1 ∙ loop.invariant.3,
+          below_more _ _ (loop.invariant.0 none.0) (sym c.is_bad_record-bad.ensures ∙ none.1),
+      rw c.id_at.ensures (mark_more loop.met records loop.i loop.invariant.2 loop.invariant.1),
+      length-set loop.met (c.id_at.result % 256) true ∙ loop.invariant.2,
     )
 
 pub returns : goal.returns
@@ -42,4 +42,4 @@ returns c =
     λ e.
     let a = c.args in
     given_first_none 6 (bad_record (facts_in 0 0 [] a.records.now [])) a.flows
-    (λ k h. c.loop-i.invariant.1 e k (omega arith))
+    (λ k h. c.loop-i.invariant.0 e k (omega arith))

@@ -7,25 +7,24 @@ use Rattle.sections.specs.Steps.{bad_in_plan}
 use Rattle.sections.proofs.steps.first_bad_step.Goals as goal
 
 pub loop-j-init : goal.loop-j-init
-loop-j-init c = (omega arith, λ k h. absurd (omega arith))
+loop-j-init c = λ k h. absurd (omega arith)
 
 pub returns-then-is_bad_step : goal.returns-then-is_bad_step
 returns-then-is_bad_step c =
     let a = c.args in
     let j = c.loop-j.j in
-    sym
-    (first_unique (bad_in_plan a.nodes a.plan.now) a.len j (omega arith) c.loop-j.invariant.1
-    (λ h. sym c.is_bad_step.ensures ∙ c.if-is_bad_step.true))
+    let here = first_unique (bad_in_plan a.nodes a.plan.now) a.len j (omega arith) c.loop-j.invariant (λ h. sym c.is_bad_step.ensures ∙ c.if-is_bad_step.true) in record {
+      found = (omega arith, sym here);
+      none = tt;
+    }
 
 pub loop-j-preserved : goal.loop-j-preserved
-loop-j-preserved c = (
-  omega arith,
-  below_more _ _ c.loop-j.invariant.1 (sym c.is_bad_step.ensures ∙ c.if-is_bad_step.false),
-)
+loop-j-preserved c = below_more _ _ c.loop-j.invariant (sym c.is_bad_step.ensures ∙ c.if-is_bad_step.false)
 
 pub returns : goal.returns
 returns c =
     let a = c.args in
-    sym
-    (first_unique (bad_in_plan a.nodes a.plan.now) a.len a.len (omega arith) (λ k h. c.loop-j.invariant.1 k (omega arith))
-    (λ h. absurd (omega arith)))
+    let end = first_unique (bad_in_plan a.nodes a.plan.now) a.len a.len (omega arith) (λ k h. c.loop-j.invariant k (omega arith)) (λ h. absurd (omega arith)) in record {
+      found = tt;
+      none = omega (arith, end);
+    }

@@ -5,4 +5,4 @@ use Rattle.sections.proofs.steps.is_misplaced.Goals as goal
 
 pub returns : goal.returns
 unfolding misplaced
-returns c = refl
+returns c = rw c.eq.ensures refl

@@ -1,5 +1,5 @@
 -- `sections::steps::searched_steps` meets its contract: no step of the plans passed is bad. Assumes nothing.
-use Prim.Native.Nat.{ℕ, ◌≤◌, ◌<◌, ◌-◌}
+use Prim.Native.Nat.{ℕ, ◌<◌}
 use mathlib.Core.Path.{◌≡◌}
 use mathlib.Core.Bool.{false}
 use mathlib.Core.List.{[]}
@@ -11,9 +11,5 @@ use Rattle.sections.proofs.steps.searched_steps.Given as goal
 
 abbrev pub invariant-loop-i : goal.invariant-loop-i
 invariant-loop-i l =
-    (l.i ≤ l.flows)
-    × (l.start ≡ sum_to (λ k. field l.records k 4) l.i)
+    (l.start ≡ sum_to (λ k. field l.records k 4) l.i)
     × ((k : ℕ) → k < l.start → bad_step (facts_in l.nodes l.flows [] l.records l.steps) k ≡ false)
-
-abbrev pub decreases-loop-i : goal.decreases-loop-i
-decreases-loop-i l = l.flows - l.i

@@ -1,6 +1,5 @@
 // The desk on which a case is tried, and what is done there, in small steps.
 use crate::books::{B_BYTES, Base, PLAN, ROOM};
-use crate::orders::Order;
 use bounds::acceptance::check;
 use changes::change::{Changed, add, remove};
 use run::advance::advance;
@@ -76,6 +75,7 @@ impl Desk {
         self.keep(n);
     }
 
+    // A table that is not written leaves zeros, which are compared then.
     pub(crate) fn compare(&mut self, book: &[u8]) {
         let mut written = [0u8; ROOM];
         let _ = write(self.table, &mut written);
@@ -87,8 +87,9 @@ impl Desk {
         self.table = changed.table;
     }
 
-    pub(crate) fn add(&mut self, order: Order) {
-        let [n, len, deadline, period, id, place] = order.numbers;
+    // A flow added, by the numbers of the word, from the last one back.
+    pub(crate) fn add(&mut self, numbers: [usize; 6]) {
+        let [n, len, deadline, period, id, place] = numbers;
         let mut plan = PLAN;
         plan[0] = (n & 0xff) as u8;
         let flow = Flow {

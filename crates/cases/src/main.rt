@@ -12,11 +12,13 @@ use listing::input::read_full;
 use orders::Order;
 use std::io;
 
-// The words of a case, each done where it ends.
+// The words of a case, one after the other. A word that is unknown is passed over.
 fn run_words(rt: &impl Print, words: &[u8]) -> io::Result<()> {
     let mut desk = Desk::new();
     for word in words.split(|b| *b == b' ') {
-        desk.obey(rt, Order::of(word))?;
+        if let Ok(order) = Order::of(word) {
+            desk.obey(rt, order)?;
+        }
     }
     Ok(())
 }
@@ -32,6 +34,7 @@ fn run_lines(rt: &impl Print, text: &[u8]) -> io::Result<()> {
     Ok(())
 }
 
+// Only the bytes that fill the buffer count, so it is no Vec.
 fn main(rt: HostRuntime) -> io::Result<()> {
     let mut text = [0u8; 65536];
     let len = read_full(&mut rt.reader(), &mut text)?;

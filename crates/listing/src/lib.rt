@@ -4,3 +4,4 @@
 pub mod input;
 pub mod lines;
 pub mod listed;
+pub mod stop;

@@ -1,5 +1,6 @@
 // The listing of a book: the bounds of its flows and the grants of its first slots, or why it is refused.
-use crate::lines::{print_book, print_bound, print_grant, print_refusal};
+use crate::lines::{print_book, print_bound, print_grant};
+use crate::stop::{Stop, print_end};
 use book::parts::open_book;
 use bounds::bounds::{Bounds, bounds_of};
 use run::advance::advance;
@@ -35,32 +36,26 @@ fn list_grants(
 }
 
 // A run from its start, slot by slot.
-fn list_run(rt: &impl Print, book: &[u8]) -> io::Result<()> {
+fn list_run(rt: &impl Print, book: &[u8]) -> Result<(), Stop> {
     let mut area = [0u8; Run::AREA_BYTES];
     let mut grants = [0u8; Flow::MOST * Grant::BYTES];
-    if let Err(refusal) = start(book, &mut area) {
-        return print_refusal(rt, refusal);
-    }
+    start(book, &mut area)?;
     for slot in 0..SLOTS {
-        match advance(book, &mut area, &mut grants) {
-            Ok(count) => list_grants(rt, Slot(slot), count, &grants)?,
-            Err(refusal) => return print_refusal(rt, refusal),
-        }
+        let count = advance(book, &mut area, &mut grants)?;
+        list_grants(rt, Slot(slot), count, &grants)?;
     }
     Ok(())
 }
 
 // A book is refused as a whole, before anything else is printed.
-pub fn list(rt: &impl Print, book: &[u8]) -> io::Result<()> {
-    let parts = match open_book(book) {
-        Ok(parts) => parts,
-        Err(refusal) => return print_refusal(rt, refusal),
-    };
-    let bounds = match bounds_of(parts) {
-        Ok(bounds) => bounds,
-        Err(refusal) => return print_refusal(rt, refusal),
-    };
+fn list_book(rt: &impl Print, book: &[u8]) -> Result<(), Stop> {
+    let parts = open_book(book)?;
+    let bounds = bounds_of(parts)?;
     print_book(rt, parts.nodes, parts.flows)?;
     list_bounds(rt, parts, &bounds)?;
     list_run(rt, book)
+}
+
+pub fn list(rt: &impl Print, book: &[u8]) -> io::Result<()> {
+    print_end(rt, list_book(rt, book))
 }

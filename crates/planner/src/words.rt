@@ -4,7 +4,7 @@ use std::env::FillError;
 use std::rt::Env;
 use trade::Clock;
 
-// Longer arguments are none that the program knows.
+// Env puts an argument into a buffer; one that is longer than this is none that the program knows.
 const LONGEST: usize = 16;
 
 // The number of slots that a text spells, where the clock has so many. It is digits alone: parse by itself would take a sign too.

@@ -22,10 +22,10 @@ mod output;
 
 use bounds::acceptance::check;
 use changes::change::{add, remove};
-use input::{Call, next_call, next_newcomer, next_part, next_place, next_table};
+use input::{Call, ROOM, next_call, next_newcomer, next_part, next_place, next_table};
 use output::{put_answer, put_checked, put_returned};
 use std::io;
-use std::io::Read;
+use std::io::{ErrorKind, Read};
 use table::checked::check_table;
 use table::table::read;
 use table::written::write;
@@ -33,89 +33,63 @@ use table::written::write;
 // So many requests are answered in a run.
 const MOST: u64 = 1_000_000;
 
-fn answer_read(rt: &impl Print, reader: &mut impl Read, room: &mut [u8]) -> io::Result<bool> {
-    let Some(len) = next_part(reader, room)? else {
-        return Ok(false);
-    };
-    let got = read(&room[..len]);
-    put_returned(rt, got.answer, got.table)?;
-    Ok(true)
-}
-
-fn answer_write(rt: &impl Print, reader: &mut impl Read, room: &mut [u8]) -> io::Result<bool> {
+fn answer_write(rt: &impl Print, reader: &mut impl Read, room: &mut [u8; ROOM]) -> io::Result<()> {
     let table = next_table(reader)?;
     let buffer = next_part(reader, room)?;
-    let (Some(table), Some(len)) = (table, buffer) else {
-        return Ok(false);
-    };
-    let buffer = &mut room[..len];
-    let answer = write(table, buffer).into();
-    put_answer(rt, answer)?;
-    rt.write_all(buffer)?;
-    Ok(true)
+    put_answer(rt, write(table, buffer).into())?;
+    rt.write_all(buffer)
 }
 
-fn answer_add(rt: &impl Print, reader: &mut impl Read) -> io::Result<bool> {
+fn answer_add(rt: &impl Print, reader: &mut impl Read) -> io::Result<()> {
     let table = next_table(reader)?;
     let place = next_place(reader)?;
     let newcomer = next_newcomer(reader)?;
-    let (Some(table), Some(place), Some(newcomer)) = (table, place, newcomer) else {
-        return Ok(false);
-    };
     let changed = add(table, place, newcomer.flow, newcomer.plan);
-    put_returned(rt, changed.answer, changed.table)?;
-    Ok(true)
+    put_returned(rt, changed.answer, changed.table)
 }
 
-fn answer_remove(rt: &impl Print, reader: &mut impl Read) -> io::Result<bool> {
+fn answer_remove(rt: &impl Print, reader: &mut impl Read) -> io::Result<()> {
     let table = next_table(reader)?;
-    let place = next_place(reader)?;
-    let (Some(table), Some(place)) = (table, place) else {
-        return Ok(false);
-    };
-    let changed = remove(table, place);
-    put_returned(rt, changed.answer, changed.table)?;
-    Ok(true)
+    let changed = remove(table, next_place(reader)?);
+    put_returned(rt, changed.answer, changed.table)
 }
 
-fn answer_check(rt: &impl Print, reader: &mut impl Read, room: &mut [u8]) -> io::Result<bool> {
-    let Some(len) = next_part(reader, room)? else {
-        return Ok(false);
-    };
-    put_checked(rt, check(&room[..len]))?;
-    Ok(true)
-}
-
-fn answer_check_table(rt: &impl Print, reader: &mut impl Read) -> io::Result<bool> {
-    let Some(table) = next_table(reader)? else {
-        return Ok(false);
-    };
-    put_checked(rt, check_table(table))?;
-    Ok(true)
-}
-
-// Whether the next request came whole, and is answered.
-fn answer_next(rt: &impl Print, reader: &mut impl Read, room: &mut [u8]) -> io::Result<bool> {
-    let Some(call) = next_call(reader)? else {
-        return Ok(false);
-    };
+// Takes what the call is handed, and answers.
+fn answer(
+    rt: &impl Print,
+    reader: &mut impl Read,
+    room: &mut [u8; ROOM],
+    call: Call,
+) -> io::Result<()> {
     match call {
-        Call::Read => answer_read(rt, reader, room),
+        Call::Read => {
+            let got = read(next_part(reader, room)?);
+            put_returned(rt, got.answer, got.table)
+        }
         Call::Write => answer_write(rt, reader, room),
         Call::Add => answer_add(rt, reader),
         Call::Remove => answer_remove(rt, reader),
-        Call::Check => answer_check(rt, reader, room),
-        Call::CheckTable => answer_check_table(rt, reader),
+        Call::Check => put_checked(rt, check(next_part(reader, room)?)),
+        Call::CheckTable => put_checked(rt, check_table(next_table(reader)?)),
     }
 }
 
-fn main(rt: HostRuntime) -> io::Result<()> {
-    let mut reader = rt.reader();
-    let mut room = [0u8; 65536];
+// Request by request, until a byte is no call.
+fn answer_all(rt: &impl Print, reader: &mut impl Read) -> io::Result<()> {
+    let mut room = [0u8; ROOM];
     for _ in 0..MOST {
-        if !answer_next(&rt, &mut reader, &mut room)? {
+        let Ok(call) = next_call(reader)? else {
             break;
-        }
+        };
+        answer(rt, reader, &mut room, call)?;
     }
     Ok(())
+}
+
+// The input may end at any byte.
+fn main(rt: HostRuntime) -> io::Result<()> {
+    match answer_all(&rt, &mut rt.reader()) {
+        Err(error) if error.kind() == ErrorKind::UnexpectedEof => Ok(()),
+        answered => answered,
+    }
 }

@@ -6,6 +6,8 @@ use mathlib.Core.Bool.{Bool, true, false, cond, ◌&&◌}
 use mathlib.Core.Logic.{⊎_elim}
 use mathlib.Core.List.{List, []}
 use native.Mathlib.Omega.{arith}
+use borrow.Author.Rules.{rules}
+use Rattle.std.specs.Ordering.{is_lt, nat_cmp}
 use lib.Dec.{eqb, ltb}
 use lib.ListN.{get_or}
 use borrow.Author.Tests.{lt-ltb, le-ltb, ltb-true, ltb-false, eq-eqb, ne_eqb, eqb-true, eqb-false, not-false}
@@ -24,6 +26,10 @@ use Rattle.slot.specs.States.{place_of, state_of, slot_in}
 use Rattle.slot.specs.Release.{released_at}
 use Rattle.area.specs.Refusals.{bad_place_at, overrun_at, run_answer}
 use Rattle.area.specs.Dues.{due_by}
+
+-- a slot is earlier than another by its number
+pub earlier : (a b : ℕ) → is_lt (nat_cmp a b) ≡ ltb a b
+earlier a b = search rules
 
 module _ (f : Facts) (r : Releases) (s : State) where
   pub code10_late : end_of_clock < s.slot → code10 f r s ≡ refused 10 0

@@ -6,7 +6,7 @@ ghost use Rattle.trade.specs.Facts.{facts_in};
 ghost use Rattle.slot.specs.States.{place_of};
 ghost use Rattle.area.specs.Dues.{IsDue};
 
-use crate::refusals::{answer_in_doubt, is_bad};
+use crate::refusals::{Trial, is_bad};
 use sections::records::record_at;
 use slot::release::is_released;
 use trade::{Clock, Flow, Progress, Refusal, Run, Slot, Step};
@@ -27,7 +27,7 @@ fn has_stray(flows: usize, run: Run) -> bool
 {
     let mut stray = false;
     for i in flows..Flow::MOST {
-        stray |= run.flows[i].done.0 != 0;
+        stray |= run.flows[i].done != Step(0);
     }
     stray
 }
@@ -42,7 +42,7 @@ pub fn due_in(flows: usize, records: &[u8], run: Run) -> Due
     let slot = run.slot;
     let mut released = run;
     let mut firsts = [Slot(0); Flow::MOST];
-    let mut doubt = (Clock::LAST < slot.0) | has_stray(flows, run);
+    let mut doubt = (Slot(Clock::LAST) < slot) | has_stray(flows, run);
     for i in 0..flows {
         let flow = record_at(records, i);
         let first = Slot(flow.phase as u32);
@@ -54,8 +54,14 @@ pub fn due_in(flows: usize, records: &[u8], run: Run) -> Due
             released.flows[i] = Progress { done: Step(0) };
         }
     }
+    let trial = Trial {
+        flows,
+        records,
+        firsts: &firsts,
+        run: &run,
+    };
     Due {
-        test: answer_in_doubt(doubt, flows, records, firsts, run),
+        test: trial.answer_in_doubt(doubt),
         run: released,
         firsts,
     }

@@ -3,6 +3,7 @@ use mathlib.Core.Path.{◌≡◌, refl, sym, ◌∙◌}
 use mathlib.Core.Bool.{◌||◌}
 use native.Mathlib.Omega.{arith}
 use lib.Dec.{ltb}
+use Rattle.area.proofs.RefusalsLaws.{earlier}
 use Rattle.trade.specs.Limits.{last_slot}
 use Rattle.trade.specs.Facts.{flow_in}
 use Rattle.area.proofs.DueLaws.{Seen, seen_none, seen_stays, seen_released, seen_clear, seen_after, seen_firsts, seen_answer}
@@ -33,13 +34,16 @@ loop-i-preserved c =
 
 -- once the loop is through, every flow has been seen
 seen : (c : After-loop-i) → Seen c.args.flows c.args.records.now c.args.run (ltb last_slot c.args.run.slot.0 || c.has_stray.result) c.args.flows c.loop-i.released.flows c.loop-i.firsts c.loop-i.doubt
-seen c = let all : c.loop-i.i ≡ c.args.flows = omega arith in rw all at c.loop-i.invariant.1
+seen c =
+    let all : c.loop-i.i ≡ c.args.flows = omega arith in
+    let late : c.lt.result ≡ ltb last_slot c.args.run.slot.0 = c.lt.ensures ∙ earlier last_slot c.args.run.slot.0 in
+    rw (all, late) at c.loop-i.invariant.1
 
-pub answer_in_doubt-requires-clause-run_value : goal.answer_in_doubt-requires-clause-run_value
-answer_in_doubt-requires-clause-run_value c =
+pub answer_in_doubt-requires : goal.answer_in_doubt-requires
+answer_in_doubt-requires c =
     let a = c.args in
     let loop = c.loop-i in
-    let all = seen (goal.at.answer_in_doubt-requires-clause-run_value c).After-loop-i in
+    let all = seen (goal.at.answer_in_doubt-requires c).After-loop-i in
     λ e.
     seen_answer a.flows a.records.now a.run _ loop.released.flows loop.firsts loop.doubt all
     ∙ seen_clear a.flows a.records.now a.run c.has_stray.result loop.released.flows loop.firsts loop.doubt all c.has_stray.ensures e

@@ -9,5 +9,5 @@ pub loop-i-preserved : goal.loop-i-preserved
 unfolding place_of
 loop-i-preserved c e =
     let loop = c.loop-i in
-    let (none, zero) = or_false loop.stray _ e in
+    let (none, zero) = or_false loop.stray _ (rw c.ne-stray.ensures at e) in
     below_more _ _ (loop.invariant none) (λ l. eqb-true _ 0 (not-false _ zero))

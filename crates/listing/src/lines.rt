@@ -1,11 +1,11 @@
 // The lines of the listing: a word or a number, then numbers with a space before each.
 use numbers::numbers::{long_at, word_at};
 use std::io;
-use trade::{Flow, Grant, Refusal, Slot};
+use trade::{Answer, Flow, Grant, Slot};
 
 // REFUSED code number
-pub fn print_refusal(rt: &impl Print, refusal: Refusal) -> io::Result<()> {
-    println!(rt; "REFUSED {}", refusal.answer())
+pub fn print_refusal(rt: &impl Print, answer: Answer) -> io::Result<()> {
+    println!(rt; "REFUSED {answer}")
 }
 
 // BOOK n m

@@ -34,7 +34,7 @@ impl From<io::Error> for Stop {
 pub fn print_end(rt: &impl Print, listed: Result<(), Stop>) -> io::Result<()> {
     match listed {
         Ok(()) => Ok(()),
-        Err(Stop::Refused(refusal)) => print_refusal(rt, refusal),
+        Err(Stop::Refused(refusal)) => print_refusal(rt, refusal.answer()),
         Err(Stop::Failed(error)) => Err(error),
     }
 }

@@ -15,7 +15,7 @@ use sections::parts::Parts;
 use sections::records::records_answer;
 use sections::steps::steps_answer;
 use square::carried::{figures_in, pairs_at};
-use square::kept::kept_answer;
+use square::kept::{Figures, kept_answer};
 use table::table::table_answer;
 use trade::{Flow, Node, Refusal};
 
@@ -26,7 +26,7 @@ pub fn old_answer<'a>(
     rows: &'a [u8],
     records: &'a [u8],
     steps: &'a [u8],
-    figures: &'a [u8],
+    figures: &'a Figures,
 ) -> Result<(), Refusal>
     requires { KeptInMemory (tabled nodes flows rows.now records.now steps.now figures.now) }
     ensures { tested result ≡ first_of old_rules no_number (tabled nodes flows rows.now records.now steps.now figures.now) }
@@ -68,7 +68,7 @@ fn new_answer<'a>(
     records: &'a [u8],
     steps: &'a [u8],
     place: usize,
-    figures: &mut [u8],
+    figures: &mut Figures,
 ) -> Result<(), Refusal>
     requires new { New (sections nodes flows rows.now records.now steps.now) }
     requires carried { Carried (sections nodes flows rows.now records.now steps.now) place figures.old }
@@ -98,7 +98,7 @@ pub fn used_answer<'a>(
     steps: &'a [u8],
     end: usize,
     place: usize,
-    figures: &mut [u8],
+    figures: &mut Figures,
 ) -> Result<(), Refusal>
     requires new { New (sections nodes flows (take (row_bytes * nodes) rows.now) (take (record_bytes * flows) records.now) (take end steps.now)) }
     requires end_in_bounds { end ≤ length steps.now }

@@ -1,9 +1,9 @@
 // Costs that a table carries: its figures, and those of a flow that has come in.
-ghost use Rattle.std.specs.Prelude.{◌≡◌, ℕ, ◌<◌, length, get_or};
-ghost use Rattle.trade.specs.Kept.{figures_room};
+ghost use Rattle.std.specs.Prelude.{ℕ, ◌<◌, get_or};
 
 use crate::costs::Costs;
 use square::carried::line_with;
+use square::kept::Figures;
 use trade::Flow;
 
 // The newcomer's place and its pairs, and the figures of before.
@@ -11,8 +11,7 @@ use trade::Flow;
 pub(crate) struct Carried<'a> {
     pub place: usize,
     pub pairs: &'a [u32; Flow::MOST],
-    pub figures: &'a [u8],
-    pub ghost room: { length figures.now ≡ figures_room },
+    pub figures: &'a Figures,
     pub ghost small: { (i : ℕ) → get_or pairs.now i 0 < 256 },
     pub ghost bytes: { (i : ℕ) → get_or figures.now i 0 < 256 },
 }

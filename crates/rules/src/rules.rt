@@ -15,18 +15,18 @@ use sections::parts::Parts;
 use sections::records::records_answer;
 use sections::steps::steps_answer;
 use square::carried::{figures_in, pairs_at};
-use square::kept::kept_answer;
+use square::kept::{Figures, kept_answer};
 use table::table::table_answer;
 use trade::{Flow, Node, Refusal};
 
-// Codes 3, 5, 6, 8 and 17 on the old table.
+// Codes 3, 5, 6, 8 and 17 on the old table. It takes slices, as docs/PROMISES.md lists it: a `Table` would ask for whole arrays.
 pub fn old_answer<'a>(
     nodes: usize,
     flows: usize,
     rows: &'a [u8],
     records: &'a [u8],
     steps: &'a [u8],
-    figures: &'a [u8],
+    figures: &'a Figures,
 ) -> Result<(), Refusal>
     requires { KeptInMemory (tabled nodes flows rows.now records.now steps.now figures.now) }
     ensures { tested result ≡ first_of old_rules no_number (tabled nodes flows rows.now records.now steps.now figures.now) }
@@ -59,7 +59,8 @@ pub fn leave_answer(flows: usize, place: usize) -> Result<(), Refusal>
 }
 
 // Codes 6, 8 and 9 on the new table, every flow tested, where a flow has come in at a place. Code 9 goes by the newcomer's pairs and the figures of
-// before; once it has passed, the figures are those of the new table. Refused, they are as they were.
+// before; once it has passed, the figures are those of the new table. Refused, they are as they were. The sections are `Parts` only once
+// they have passed.
 fn new_answer<'a>(
     nodes: usize,
     flows: usize,
@@ -67,7 +68,7 @@ fn new_answer<'a>(
     records: &'a [u8],
     steps: &'a [u8],
     place: usize,
-    figures: &mut [u8],
+    figures: &mut Figures,
 ) -> Result<(), Refusal>
     requires new { New (sections nodes flows rows.now records.now steps.now) }
     requires carried { Carried (sections nodes flows rows.now records.now steps.now) place figures.old }
@@ -88,7 +89,7 @@ fn new_answer<'a>(
     Ok(())
 }
 
-// The same on the used places of lent sections, where the steps in use end at this byte.
+// The same on the used places of lent sections, where the steps in use end at this byte. It takes slices for the same reason as `old_answer`.
 pub fn used_answer<'a>(
     nodes: usize,
     flows: usize,
@@ -97,7 +98,7 @@ pub fn used_answer<'a>(
     steps: &'a [u8],
     end: usize,
     place: usize,
-    figures: &mut [u8],
+    figures: &mut Figures,
 ) -> Result<(), Refusal>
     requires new { New (sections nodes flows (take (row_bytes * nodes) rows.now) (take (record_bytes * flows) records.now) (take end steps.now)) }
     requires end_in_bounds { end ≤ length steps.now }

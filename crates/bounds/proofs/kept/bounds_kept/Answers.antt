@@ -16,7 +16,7 @@ use Rattle.bounds.proofs.BoundsLaws.{bounded_times}
 use Rattle.bounds.proofs.kept.bounds_kept.Goals as goal
 
 pub bounds_with-requires : goal.bounds_with-requires
-bounds_with-requires c = (c.requires.0, c.requires.1, λ i. omega (arith, zeros 32 i))
+bounds_with-requires c = (c.requires, λ i. omega (arith, zeros 32 i))
 
 pub returns : goal.returns
 unfolding facts_of
@@ -28,4 +28,4 @@ returns c =
     c.bounds_with.ensures
     ∙ bounded_times f f refl (times_self a.flows f) (fairly f cost) (fairly f own)
     (fair_same a.flows f f (times_self a.flows f) cost own
-    (λ l h p q. with_none (replicate most_flows 0) a.figures.now l h (omega (arith, c.requires.0.most)) q))
+    (λ l h p q. with_none (replicate most_flows 0) a.figures.now l h (omega (arith, c.requires.most)) q))

@@ -51,9 +51,6 @@ clear-requires-3 c =
 pub overflow_sub-flows : goal.overflow_sub-flows
 overflow_sub-flows c = omega (arith, c.requires.within)
 
-pub figures_out-requires : goal.figures_out-requires
-figures_out-requires c = (omega (arith, c.requires.within, c.requires.old.flows), c.requires.size)
-
 pub returns : goal.returns
 unfolding kept_of
 returns c =

@@ -1,5 +1,4 @@
--- `square::kept::kept_answer` looks at line by line. The loop's invariant: no line up to l is wrong. The measure is how many are left.
--- Assumes nothing.
+-- `square::kept::kept_answer` looks at line by line. The loop's invariant: no line up to l is wrong. Assumes nothing.
 use Prim.Native.Nat.{ℕ}
 use mathlib.Core.Path.{◌≡◌, refl, sym, ◌∙◌, ap}
 use mathlib.Core.Bool.{not}
@@ -29,7 +28,7 @@ pub figures_at-requires : goal.figures_at-requires
 figures_at-requires c = rw c.of-heard.ensures.parts (omega arith)
 
 pub is_line-requires : goal.is_line-requires
-is_line-requires c = (c.requires, omega (arith, c.args.parts.formed.most))
+is_line-requires c = omega (arith, c.args.parts.formed.most)
 
 -- whether the line is right
 right : (c : After-is_line) → c.is_line.result ≡ not (wrong_line (own c.args.parts c.args.figures.now) c.loop-l.l)

@@ -1,6 +1,6 @@
 -- `table::table::table_of` meets its contract: each section is copied over zeros, and the figures are worked out. Assumes nothing.
 use Prim.Native.Nat.{ℕ}
-use mathlib.Core.Path.{◌≡◌, refl, ◌∙◌, ap}
+use mathlib.Core.Path.{◌≡◌, ◌∙◌, ap}
 use mathlib.Core.List.{List, ◌++◌}
 use lib.ListN.{length, drop, replicate}
 use Rattle.trade.specs.Bytes.{over, padded}
@@ -9,9 +9,6 @@ use Rattle.trade.specs.Table.{rows_room, records_room, steps_room}
 use Rattle.trade.proofs.Kept.{figures_counted}
 use Rattle.numbers.proofs.PastingLaws.{over_zeros}
 use Rattle.table.proofs.table.table_of.Goals as goal
-
-pub keep-requires : goal.keep-requires
-keep-requires c = refl
 
 -- what is copied to the front of zeros has zeros behind it
 copied : (room : ℕ) (src part : List ℕ) → part ≡ src → part ++ drop (length src) (replicate room 0) ≡ padded room src

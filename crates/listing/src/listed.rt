@@ -21,7 +21,7 @@ fn list_bounds(rt: &impl Print, parts: Parts, bounds: &Bounds) -> io::Result<()>
     Ok(())
 }
 
-// The grants of a slot, of which there is at most one for each flow place.
+// The grants of a slot, so many of the buffer. The count stands beside the buffer: a slice was tried, and the proof that they fit did not close.
 fn list_grants(
     rt: &impl Print,
     slot: Slot,

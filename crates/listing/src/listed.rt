@@ -21,15 +21,10 @@ fn list_bounds(rt: &impl Print, parts: Parts, bounds: &Bounds) -> io::Result<()>
     Ok(())
 }
 
-// The grants of a slot, of which there is at most one for each flow place.
-fn list_grants(
-    rt: &impl Print,
-    slot: Slot,
-    count: usize,
-    grants: &[u8; Flow::MOST * Grant::BYTES],
-) -> io::Result<()> {
+// The grants of a slot.
+fn list_grants(rt: &impl Print, slot: Slot, grants: &[u8]) -> io::Result<()> {
     let (grants, _) = grants.as_chunks::<{ Grant::BYTES }>();
-    for grant in grants.iter().take(count) {
+    for grant in grants {
         print_grant(rt, slot, grant)?;
     }
     Ok(())
@@ -42,7 +37,7 @@ fn list_run(rt: &impl Print, book: &[u8]) -> Result<(), Stop> {
     start(book, &mut area)?;
     for slot in 0..SLOTS {
         let count = advance(book, &mut area, &mut grants)?;
-        list_grants(rt, Slot(slot), count, &grants)?;
+        list_grants(rt, Slot(slot), &grants[..Grant::BYTES * count])?;
     }
     Ok(())
 }

@@ -1,5 +1,5 @@
--- A book that passes codes 1 to 8: its parts lie in the slice, a table has room for them, its sections are well formed; and what is
--- opened of it. Leans on the trade's Whole and the sections' FormedLaws. Assumes nothing.
+-- A book that passes codes 1 to 8: its parts lie in the slice, a table has room for them, and its sections are well formed.
+-- Leans on the trade's Whole and the sections' FormedLaws. Assumes nothing.
 use Prim.Native.Nat.{ℕ, ◌≤◌}
 use mathlib.Core.Path.{◌≡◌, refl}
 use mathlib.Core.List.{List}

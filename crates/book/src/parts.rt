@@ -107,7 +107,8 @@ fn frame_by(t: Trailer, len: usize) -> Frame
     }
 }
 
-// The three sections of a book, each a part that starts inside its slice.
+// The three sections of a book, each a part that starts inside its slice. One function of two places would promise bytes, and not which
+// section they are.
 pub fn rows_of(slice: &[u8], f: Frame) -> &[u8]
     requires { Lies slice.now f }
     ensures { result.now ≡ (sections_of slice.now).rows }

@@ -16,7 +16,7 @@ use trade::{Answer, Flow, Node, Refusal};
 // The bound of each flow, and zeros elsewhere.
 pub type Bounds = [u16; Flow::MOST];
 
-// An answer, and the bounds of the flows with zeros elsewhere; refused, all zeros.
+// An answer, and the bounds of the flows with zeros elsewhere; refused, all zeros. Not a Result, since `ChecksAs` promises those zeros.
 #[derive(Clone, Copy)]
 pub struct Checked {
     pub answer: Answer,
@@ -40,7 +40,8 @@ impl From<Result<Bounds, Refusal>> for Checked {
     }
 }
 
-// The bound of flow l, by the costs, the periods and the carry-in of the flows above it; its deadline + 1 where it has none.
+// The bound of flow l, by the costs, the periods and the carry-in of the flows above it; its deadline + 1 where it has none, and no Option,
+// as `bound_by` says it.
 fn bound_at<C: Costs>(
     records: &[u8],
     costs: &C,

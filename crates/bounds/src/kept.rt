@@ -33,7 +33,7 @@ pub fn bounds_with(
     )
 }
 
-// The same by the figures alone: no flow comes in.
+// The same by the figures alone: no flow comes in. A place past all flows is no newcomer's, so that no second kind of costs is needed.
 pub fn bounds_kept(flows: usize, records: &[u8], figures: &[u8]) -> Result<Bounds, Refusal>
     requires { Timed flows records.now × (length figures.now ≡ figures_room) }
     ensures { checked_by result ≡ bounded_in (facts_in 0 flows [] records.now []) (fairly (facts_in 0 flows [] records.now []) (figure_in figures.now)) }

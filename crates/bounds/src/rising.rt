@@ -49,8 +49,9 @@ fn least_needed(len: u32, above: usize, figures: &[u32; Flow::MOST]) -> u32
     len + figures[..above].iter().sum::<u32>()
 }
 
-// The smallest r from the plan's length to the deadline that is at least the slots needed within it; deadline + 1 where there is none.
-// What is needed grows with r, so no r below what an r needs will do, and the search goes on from there.
+// The smallest r from the plan's length to the deadline that is at least the slots needed within it; deadline + 1 where there is none, as
+// `bound_by` says it.
+// What is needed grows with r, so no r below what an r needs will do, and the search goes on from there: so it is no count over a range.
 pub(crate) fn smallest(
     len: u32,
     deadline: u32,

@@ -1,6 +1,6 @@
 // Adding a flow to a table at a place, and removing one. The rules are tested in their order: on the old table, on the place, on the new
-// table. The old table is handed back where one of them refuses. A change is made in one copy of the table: each further move by value would be another on the
-// stack.
+// table. The old table is handed back where one of them refuses. A change is made in one copy of the table: each further move by value
+// would be another on the stack.
 ghost use Rattle.changes.specs.Change.{Adds, Removes};
 ghost use Rattle.table.specs.Table.{kept_in};
 
@@ -9,7 +9,7 @@ use crate::leaving::leave;
 use table::table::Table;
 use trade::{Answer, Flow, Plan};
 
-// What a change answers, and the table after it.
+// What a change answers, and the table after it. Not a Result, since `Adds` and `Removes` promise the old table on a refusal.
 #[derive(Clone, Copy)]
 pub struct Changed {
     pub answer: Answer,

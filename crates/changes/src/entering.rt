@@ -1,4 +1,4 @@
-// A flow that comes into the lent sections of a table, at a place.
+// A flow that comes into a lent table, at a place.
 ghost use Rattle.std.specs.Prelude.{◌≡◌, min};
 ghost use Rattle.trade.specs.Limits.{most_steps};
 ghost use Rattle.trade.specs.Calls.{record_of, add_of};
@@ -14,7 +14,7 @@ use sections::records::steps_before;
 use table::table::Table;
 use trade::{Flow, Node, Plan, Refusal};
 
-// A flow's record, ten bytes.
+// A flow's record, ten bytes. Not a `From`, since neither of the two types is this crate's own.
 fn record_bytes(f: Flow) -> [u8; Flow::RECORD_BYTES]
     ensures { result ≡ record_of f }
 {

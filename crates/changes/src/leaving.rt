@@ -1,4 +1,4 @@
-// A flow that goes from the lent sections of a table.
+// A flow that goes from a lent table.
 ghost use Rattle.std.specs.Prelude.{◌≡◌};
 ghost use Rattle.trade.specs.Table.{used};
 ghost use Rattle.trade.specs.Kept.{kept_of};

@@ -27,6 +27,7 @@ pub(crate) fn figures_by(
     let mut figures = [0u32; Flow::MOST];
     let mut start = 0;
     let mut h = 0;
+    // Not a count over a range: only a group that is laid tells where the next one begins.
     while h < l {
         let mut words = [0u64; Plan::MOST];
         let laid = lay_group(columns, width, records, steps, h, start, l, &mut words);

@@ -67,6 +67,7 @@ pub(crate) fn lay_group(
         longest: 0,
     };
     let mut at = 0;
+    // A `for` over the flows would have to break on the same test, and to keep the lane's place beside it.
     while has_room(laid.next, l, at, width) {
         let len = len_at(records, laid.next);
         let count = lay(columns, plan_part(steps, laid.start, len), at, words);

@@ -1,4 +1,4 @@
--- Bits of masks: of a union, of a common part, of one node, and of a row. Leans on lib.Bits. Assumes nothing.
+-- Bits of masks: of a union, of a common part, of one node, of a row and its bytes, and the lowest bit of a set. Leans on lib.Bits. Assumes nothing.
 use Prim.Native.Nat.{ℕ, zero, suc, ◌+◌, ◌-◌, ◌*◌, ◌/◌, ◌%◌, ◌^◌, ◌≤◌, ◌<◌}
 use mathlib.Core.Path.{◌≡◌, refl, sym, ◌∙◌, ap, ap₂}
 use mathlib.Core.Bool.{Bool, true, false, not, cond, ◌&&◌, ◌||◌}

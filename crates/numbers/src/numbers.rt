@@ -1,4 +1,4 @@
-// Numbers of two and of four bytes in a slice, big-endian.
+// Numbers of two and of four bytes in a slice, big-endian. A trait over both types would need for each of them the bodies that stand here.
 ghost use Rattle.std.specs.Prelude.{◌≡◌, ◌+◌, ◌<◌, length};
 ghost use Rattle.trade.specs.Bytes.{word, long, two_bytes, four_bytes};
 ghost use Rattle.numbers.specs.Pasting.{pasted_at};

@@ -25,7 +25,7 @@ fn put_step(out: &mut [u8], k: usize, u: Transmission)
     out[at + 1] = u.receiver.0;
 }
 
-// The steps of a plan that are not the same as the one before, over the front of a buffer; how many they are.
+// The steps of a plan that are not the same as the one before, over the front of a buffer; how many they are. There is no heap for a Vec.
 pub fn single(plan: &[u8], out: &mut [u8]) -> usize
     requires { length plan.now ≤ length out.old }
     ensures { Singled plan.now out.old out.new × (result ≡ singles plan.now (steps_in plan.now)) }

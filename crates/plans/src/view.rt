@@ -1,5 +1,5 @@
-// A view of a plan: its steps, held where they lie in the lent book. Each function takes the view apart, or makes it, and leaves the
-// work to one of `steps` on the slice. Whoever has a steps section calls `plan_step`, whose parameters are plain.
+// A view of a plan: its steps, held where they lie in the lent book. Whoever has a steps section calls `plan_step`, whose parameters are
+// plain. The others are functions, and no methods, as the theorems of `proofs/Unique.antt` name them.
 ghost use Rattle.std.specs.Prelude.{◌≡◌};
 ghost use Rattle.plans.specs.Plan.{steps_in, step_or, plan_step};
 

@@ -19,7 +19,7 @@ use square::kept::kept_answer;
 use table::table::table_answer;
 use trade::{Flow, Node, Refusal};
 
-// Codes 3, 5, 6, 8 and 17 on the old table.
+// Codes 3, 5, 6, 8 and 17 on the old table. It takes slices, as docs/PROMISES.md lists it: a `Table` would ask for whole arrays.
 pub fn old_answer<'a>(
     nodes: usize,
     flows: usize,
@@ -59,7 +59,8 @@ pub fn leave_answer(flows: usize, place: usize) -> Result<(), Refusal>
 }
 
 // Codes 6, 8 and 9 on the new table, every flow tested, where a flow has come in at a place. Code 9 goes by the newcomer's pairs and the figures of
-// before; once it has passed, the figures are those of the new table. Refused, they are as they were.
+// before; once it has passed, the figures are those of the new table. Refused, they are as they were. The sections are `Parts` only once
+// they have passed.
 fn new_answer<'a>(
     nodes: usize,
     flows: usize,
@@ -88,7 +89,7 @@ fn new_answer<'a>(
     Ok(())
 }
 
-// The same on the used places of lent sections, where the steps in use end at this byte.
+// The same on the used places of lent sections, where the steps in use end at this byte. It takes slices for the same reason as `old_answer`.
 pub fn used_answer<'a>(
     nodes: usize,
     flows: usize,

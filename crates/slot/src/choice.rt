@@ -19,7 +19,7 @@ pub struct Turn {
     pub done: Step,
 }
 
-// The flows that go: their places as a set, and what each of them sends.
+// The flows that go: their places as a set, and what each of them sends. There is no heap for a list of those that go.
 #[derive(Clone, Copy)]
 pub struct Choice {
     pub places: u32,

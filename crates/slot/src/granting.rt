@@ -42,7 +42,7 @@ pub fn grant_all(
     let slot = run.slot;
     let mut rest = choice.places;
     let mut count = 0;
-    // The places of a set are its bits: the lowest that is left goes next.
+    // The places of a set are its bits: the lowest that is left goes next. `Members` would give them as nodes, which they are not.
     while rest != 0 {
         let i = rest.trailing_zeros() as usize;
         let done = run.flows[i].done;

@@ -1,4 +1,5 @@
-// The figures that a table carries: 32 lines of 32, a byte each; I(l,h) is the h-th of line l.
+// The figures that a table carries: 32 lines of 32, a byte each; I(l,h) is the h-th of line l. They are lent as a slice whose length each
+// contract asks for, since an array would ask more of a caller.
 ghost use Rattle.std.specs.Prelude.{◌≡◌, not, ℕ, ◌+◌, ◌≤◌, ◌<◌, eqb, length, get_or};
 ghost use Rattle.trade.specs.Limits.{most_flows};
 ghost use Rattle.trade.specs.First.{some};
@@ -23,7 +24,8 @@ fn shift(h: usize, cut: usize, ahead: usize, back: usize) -> usize
     h + ahead - back
 }
 
-// The first so many figures of a line, read from their places, and zeros behind them.
+// The first so many figures of a line, read from their places, and zeros behind them. A cut at `Flow::MOST` leaves every place as it is: a
+// function for that alone would be this loop again.
 pub fn line_from(
     figures: &[u8],
     line: usize,

@@ -1,5 +1,5 @@
 // The table in memory: the same counts and sections as a book, in the same layout, with room for the largest, and the interference of its
-// flows, I(l,h) at 32 l + h; and reading.
+// flows, I(l,h) at 32 l + h; and reading. There is no heap: each section is an array of the largest size, and the counts stand beside.
 ghost use Rattle.std.specs.Prelude.{◌≡◌, ◌≤◌, length, IfOk};
 ghost use Rattle.trade.specs.Layout.{sections};
 ghost use Rattle.trade.specs.Answers.{first_of, no_number};
@@ -29,7 +29,7 @@ pub struct Table {
     pub figures: [u8; Flow::MOST * Flow::MOST],
 }
 
-// What reading a book answers, and the table that it holds.
+// What reading a book answers, and the table that it holds. Not a Result, since `Reads` promises a table of zeros on a refusal.
 #[derive(Clone, Copy)]
 pub struct Got {
     pub answer: Answer,
@@ -66,7 +66,8 @@ impl Table {
     }
 }
 
-// The table of these sections, zeros behind each, and the figures of their flows.
+// The table of these sections, zeros behind each, and the figures of their flows. The sections come apart and not as `Parts`: the counts are
+// bytes here, which `Parts` does not say.
 pub fn table_of<'a>(
     nodes: u8,
     flows: u8,
@@ -103,7 +104,8 @@ pub fn table_of<'a>(
     }
 }
 
-// Codes 3, 5, 6 and 8 on a table's sections, and its parts where they pass.
+// Codes 3, 5, 6 and 8 on a table's sections, and its parts where they pass. It takes slices, as docs/PROMISES.md lists it: a `Table` would ask
+// for whole arrays, and `Parts` have passed already.
 pub fn table_answer<'a>(
     nodes: usize,
     flows: usize,

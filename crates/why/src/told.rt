@@ -29,7 +29,8 @@ fn has_place(places: u32, i: usize) -> bool
     (places >> i) % 2 == 1
 }
 
-// The first flow above a place that goes and whose step conflicts with this one; the place itself where there is none.
+// The first flow above a place that goes and whose step conflicts with this one; the place itself where there is none. A flow that waits
+// has one, so that of an Option the None would never come.
 fn blocker(rows: &[u8], choice: Choice, step: Transmission, place: usize) -> usize
     requires { Blockers rows.now choice step place }
     ensures { result ≡ first (λ h. bit choice.places h && conflict (disturbs_in rows.now) (sent_at choice.sent h) step) place }

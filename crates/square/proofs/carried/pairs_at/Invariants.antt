@@ -1,5 +1,5 @@
 -- `square::carried::pairs_at` works the line of the flow out, and then the figure of it for each flow below. The loop's invariant: the
--- pairs up to l are there. The measure is how many flows are left. Assumes nothing.
+-- pairs up to l are there. Assumes nothing.
 use Prim.Native.Nat.{◌<◌, ◌≤◌}
 use mathlib.Core.Path.{◌≡◌}
 use Rattle.trade.specs.Limits.{most_flows}

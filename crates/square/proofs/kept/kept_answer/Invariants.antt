@@ -1,5 +1,4 @@
--- `square::kept::kept_answer` looks at line by line. The loop's invariant: no line up to l is wrong. The measure is how many are left.
--- Assumes nothing.
+-- `square::kept::kept_answer` looks at line by line. The loop's invariant: no line up to l is wrong. Assumes nothing.
 use Prim.Native.Nat.{ℕ, ◌≤◌, ◌<◌}
 use mathlib.Core.Path.{◌≡◌}
 use mathlib.Core.Bool.{false}

@@ -1,4 +1,4 @@
--- `why::told::blocker` looks at place by place. The loop's invariant: none up to h blocks. The measure is how many are left. Assumes nothing.
+-- `why::told::blocker` looks at place by place. The loop's invariant: none up to h blocks. Assumes nothing.
 use mathlib.Core.Path.{◌≡◌, sym, ◌∙◌, ap₂}
 use mathlib.Core.Bool.{true, ◌&&◌}
 use borrow.Author.Count.{below_more}

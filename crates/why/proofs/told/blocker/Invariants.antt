@@ -1,4 +1,4 @@
--- `why::told::blocker` looks at place by place. The loop's invariant: none up to h blocks. The measure is how many are left. Assumes nothing.
+-- `why::told::blocker` looks at place by place. The loop's invariant: none up to h blocks. Assumes nothing.
 use Prim.Native.Nat.{ℕ, ◌<◌}
 use mathlib.Core.Path.{◌≡◌}
 use mathlib.Core.Bool.{Bool, false, ◌&&◌}

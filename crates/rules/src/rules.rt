@@ -19,7 +19,7 @@ use square::kept::{Figures, kept_answer};
 use table::table::table_answer;
 use trade::{Flow, Node, Refusal};
 
-// Codes 3, 5, 6, 8 and 17 on the old table. It takes slices, as docs/PROMISES.md lists it: a `Table` would ask for whole arrays.
+// Codes 3, 5, 6, 8 and 17 on the old table. It takes the sections as slices, as docs/PROMISES.md lists it: a `Table` would ask for whole arrays.
 pub fn old_answer<'a>(
     nodes: usize,
     flows: usize,
@@ -89,7 +89,7 @@ fn new_answer<'a>(
     Ok(())
 }
 
-// The same on the used places of lent sections, where the steps in use end at this byte. It takes slices for the same reason as `old_answer`.
+// The same on the used places of lent sections, where the steps in use end at this byte. They are slices for the same reason as in `old_answer`.
 pub fn used_answer<'a>(
     nodes: usize,
     flows: usize,

@@ -16,7 +16,7 @@ use sections::parts::Parts;
 use sections::records::records_answer;
 use sections::rows::rows_answer;
 use sections::steps::steps_answer;
-use square::kept::keep;
+use square::kept::{Figures, keep};
 use trade::{Answer, Flow, Node, Plan, Refusal};
 
 #[derive(Clone, Copy)]
@@ -26,7 +26,7 @@ pub struct Table {
     pub rows: [u8; Node::MOST * Node::ROW_BYTES],
     pub records: [u8; Flow::MOST * Flow::RECORD_BYTES],
     pub steps: [u8; Flow::MOST * Plan::MOST * Plan::STEP_BYTES],
-    pub figures: [u8; Flow::MOST * Flow::MOST],
+    pub figures: Figures,
 }
 
 // What reading a book answers, and the table that it holds. Not a Result, since `Reads` promises a table of zeros on a refusal.

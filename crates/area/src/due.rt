@@ -6,7 +6,7 @@ ghost use Rattle.trade.specs.Facts.{facts_in};
 ghost use Rattle.slot.specs.States.{place_of};
 ghost use Rattle.area.specs.Dues.{IsDue};
 
-use crate::refusals::{Trial, is_bad};
+use crate::refusals::{Timed, is_bad};
 use sections::records::record_at;
 use slot::release::is_released;
 use trade::{Clock, Flow, Progress, Refusal, Run, Slot, Step};
@@ -54,14 +54,14 @@ pub fn due_in(flows: usize, records: &[u8], run: Run) -> Due
             released.flows[i] = Progress { done: Step(0) };
         }
     }
-    let trial = Trial {
-        flows,
-        records,
-        firsts: &firsts,
-        run: &run,
+    // The rules read the run only in doubt: where one look at all flows has left none, none of the three refuses it.
+    let test = if doubt {
+        Timed { flows, records }.run_answer(firsts, run)
+    } else {
+        Ok(())
     };
     Due {
-        test: trial.answer_in_doubt(doubt),
+        test,
         run: released,
         firsts,
     }

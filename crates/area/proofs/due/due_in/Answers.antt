@@ -39,22 +39,26 @@ seen c =
     let late : c.lt.result ≡ ltb last_slot c.args.run.slot.0 = c.lt.ensures ∙ earlier last_slot c.args.run.slot.0 in
     rw (all, late) at c.loop-i.invariant.1
 
-pub answer_in_doubt-requires : goal.answer_in_doubt-requires
-answer_in_doubt-requires c =
+pub returns-then-doubt : goal.returns-then-doubt
+returns-then-doubt c =
     let a = c.args in
     let loop = c.loop-i in
-    let all = seen (goal.at.answer_in_doubt-requires c).After-loop-i in
-    λ e.
-    seen_answer a.flows a.records.now a.run _ loop.released.flows loop.firsts loop.doubt all
-    ∙ seen_clear a.flows a.records.now a.run c.has_stray.result loop.released.flows loop.firsts loop.doubt all c.has_stray.ensures e
-
-pub returns : goal.returns
-returns c =
-    let a = c.args in
-    let loop = c.loop-i in
-    let all = seen (goal.at.returns c).After-loop-i in
+    let all = seen (goal.at.returns-then-doubt c).After-loop-i in
     record {
-      answer = c.answer_in_doubt.ensures ∙ seen_answer a.flows a.records.now a.run _ loop.released.flows loop.firsts loop.doubt all;
+      answer =
+          c.run_answer-test.ensures ∙ seen_answer a.flows a.records.now a.run _ loop.released.flows loop.firsts loop.doubt all;
+      after = seen_after a.flows a.records.now a.run _ loop.released.flows loop.firsts loop.doubt all loop.released.slot loop.invariant.0;
+      firsts = seen_firsts a.flows a.records.now a.run _ loop.released.flows loop.firsts loop.doubt all;
+    }
+
+pub returns-else-doubt : goal.returns-else-doubt
+returns-else-doubt c =
+    let a = c.args in
+    let loop = c.loop-i in
+    let all = seen (goal.at.returns-else-doubt c).After-loop-i in
+    record {
+      answer =
+          sym (seen_clear a.flows a.records.now a.run c.has_stray.result loop.released.flows loop.firsts loop.doubt all c.has_stray.ensures c.if-doubt.false);
       after = seen_after a.flows a.records.now a.run _ loop.released.flows loop.firsts loop.doubt all loop.released.slot loop.invariant.0;
       firsts = seen_firsts a.flows a.records.now a.run _ loop.released.flows loop.firsts loop.doubt all;
     }

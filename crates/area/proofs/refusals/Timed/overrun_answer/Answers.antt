@@ -1,4 +1,4 @@
--- `area::refusals::Trial::overrun_answer` no flow passed is overrun. Assumes nothing.
+-- `area::refusals::Timed::overrun_answer` no flow passed is overrun. Assumes nothing.
 use mathlib.Core.Path.{◌≡◌, sym, ◌∙◌, ap}
 use mathlib.Core.List.{[]}
 use native.Mathlib.Omega.{arith}
@@ -11,21 +11,21 @@ use Rattle.slot.specs.States.{state_of}
 use Rattle.area.specs.Refusals.{overrun_at}
 use Rattle.area.proofs.RefusalsLaws.{code11_at, code11_none, overrun_shown}
 use Rattle.area.specs.Dues.{due_by}
-use Rattle.area.proofs.refusals.Trial.overrun_answer.Invariants.{late}
-use Rattle.area.proofs.refusals.Trial.overrun_answer.Goals as goal
-use Rattle.area.proofs.refusals.Trial.overrun_answer.Goals.{After-is_overrun}
+use Rattle.area.proofs.refusals.Timed.overrun_answer.Invariants.{late}
+use Rattle.area.proofs.refusals.Timed.overrun_answer.Goals as goal
+use Rattle.area.proofs.refusals.Timed.overrun_answer.Goals.{After-is_overrun}
 
 -- what is asked of a flow is whether it is overrun
 asked :
     (c : After-is_overrun)
     → c.is_overrun.result
-    ≡ late c.args.self.flows c.args.self.records.now c.args.self.firsts.now c.args.self.run.now c.loop-i.i
+    ≡ late c.args.self.flows c.args.self.records.now c.args.firsts c.args.run c.loop-i.i
 asked c =
     let a = c.args in
     let i = c.loop-i.i in
     c.is_overrun.ensures
-    ∙ ap (λ (w : Flow). overrun_at w (get_or a.self.firsts.now i (record { 0 = 0 })) a.self.run.now.slot (get_or a.self.run.now.flows i (idle_of 0))) c.record_at-flow.ensures
-    ∙ overrun_shown a.self.flows a.self.records.now a.self.firsts.now a.self.run.now i
+    ∙ ap (λ (w : Flow). overrun_at w (get_or a.firsts i (record { 0 = 0 })) a.run.slot (get_or a.run.flows i (idle_of 0))) c.record_at-flow.ensures
+    ∙ overrun_shown a.self.flows a.self.records.now a.firsts a.run i
 
 pub loop-i-init : goal.loop-i-init
 loop-i-init c = λ k h. absurd (omega arith)
@@ -39,7 +39,7 @@ unfolding facts_of
 returns-then-is_overrun c =
     let a = c.args in
     let loop = c.loop-i in
-    sym (code11_at (facts_in 0 a.self.flows [] a.self.records.now []) (due_by (facts_in 0 a.self.flows [] a.self.records.now []) a.self.firsts.now a.self.run.now) (state_of a.self.run.now) loop.i (omega arith) loop.invariant (sym (asked (goal.at.returns-then-is_overrun c).After-is_overrun) ∙ c.if-is_overrun.true))
+    sym (code11_at (facts_in 0 a.self.flows [] a.self.records.now []) (due_by (facts_in 0 a.self.flows [] a.self.records.now []) a.firsts a.run) (state_of a.run) loop.i (omega arith) loop.invariant (sym (asked (goal.at.returns-then-is_overrun c).After-is_overrun) ∙ c.if-is_overrun.true))
 
 pub loop-i-preserved : goal.loop-i-preserved
 loop-i-preserved c =
@@ -51,4 +51,4 @@ unfolding facts_of
 returns c =
     let a = c.args in
     let loop = c.loop-i in
-    sym (code11_none (facts_in 0 a.self.flows [] a.self.records.now []) (due_by (facts_in 0 a.self.flows [] a.self.records.now []) a.self.firsts.now a.self.run.now) (state_of a.self.run.now) (λ k h. loop.invariant k (omega arith)))
+    sym (code11_none (facts_in 0 a.self.flows [] a.self.records.now []) (due_by (facts_in 0 a.self.flows [] a.self.records.now []) a.firsts a.run) (state_of a.run) (λ k h. loop.invariant k (omega arith)))

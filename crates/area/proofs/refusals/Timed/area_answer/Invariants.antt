@@ -1,4 +1,4 @@
--- `area::refusals::Trial::area_answer` no place passed is bad. Assumes nothing.
+-- `area::refusals::Timed::area_answer` no place passed is bad. Assumes nothing.
 use Prim.Native.Nat.{ℕ, ◌≤◌, ◌<◌}
 use mathlib.Core.Path.{◌≡◌}
 use mathlib.Core.Bool.{false, Bool}
@@ -10,7 +10,7 @@ use Rattle.slot.specs.States.{state_of}
 use Rattle.trade.specs.declared.clock.Slot.{Slot}
 use Rattle.trade.specs.declared.state.Run.{Run}
 use Rattle.area.specs.Dues.{due_by}
-use Rattle.area.proofs.refusals.Trial.area_answer.Given as goal
+use Rattle.area.proofs.refusals.Timed.area_answer.Given as goal
 
 -- a place of a run is bad
 abbrev pub bad : ℕ → List ℕ → List Slot → Run → ℕ → Bool
@@ -19,5 +19,5 @@ bad flows records firsts run k =
 
 abbrev pub invariant-loop-i : goal.invariant-loop-i
 invariant-loop-i l =
-    (l.fn.self.run.now.slot.0 ≤ end_of_clock)
-    × ((k : ℕ) → k < l.i → bad l.self.flows l.self.records.now l.self.firsts.now l.self.run.now k ≡ false)
+    (l.fn.run.slot.0 ≤ end_of_clock)
+    × ((k : ℕ) → k < l.i → bad l.self.flows l.self.records.now l.firsts l.fn.run k ≡ false)

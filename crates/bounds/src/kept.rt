@@ -7,7 +7,7 @@ ghost use Rattle.square.specs.Carried.{figure_with};
 ghost use Rattle.bounds.specs.Bounds.{Timed, checked_by, bounded_in};
 
 use crate::bounds::{Bounds, bounds_by};
-use crate::carried::Carried;
+use crate::carried::{Carried, Kept};
 use square::kept::Figures;
 use trade::{Flow, Refusal};
 
@@ -34,10 +34,10 @@ pub fn bounds_with(
     )
 }
 
-// The same by the figures alone: no flow comes in. A place past all flows is no newcomer's, so that no second kind of costs is needed.
+// The same by the figures alone: no flow comes in.
 pub fn bounds_kept(flows: usize, records: &[u8], figures: &Figures) -> Result<Bounds, Refusal>
     requires { Timed flows records.now }
     ensures { checked_by result ≡ bounded_in (facts_in 0 flows [] records.now []) (fairly (facts_in 0 flows [] records.now []) (figure_in figures.now)) }
 {
-    bounds_with(flows, records, Flow::MOST, &[0; Flow::MOST], figures)
+    bounds_by(flows, records, &Kept { figures })
 }

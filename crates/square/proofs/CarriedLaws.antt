@@ -102,12 +102,6 @@ module _ (place : ℕ) (pairs old : List ℕ) where
   unfolding figure_in
   with_bytes small bytes l h = with_cases (λ (n : ℕ). n < 256) l h (λ e. small h) (λ e. small l) (λ d e. bytes _)
 
--- where none comes in, they are those that were there
-pub with_none : (pairs old : List ℕ) (l h : ℕ) → l < most_flows → h < l → figure_with most_flows pairs old l h ≡ figure_in old l h
-with_none pairs old l h m p =
-    with_others most_flows pairs old l h (λ e. omega arith) (λ e. omega arith)
-    ∙ ap₂ (figure_in old) (in_below most_flows l m) (in_below most_flows h (omega arith))
-
 -- read from figures whose lines up to l are as they were
 with_left :
     (F : ℕ → ℕ → ℕ) (place : ℕ) (pairs old : List ℕ) (put : ℕ → Bool) (figures : List ℕ) (l h : ℕ)

@@ -26,7 +26,7 @@ use Rattle.rules.specs.Rules.{New, NewFigures}
 use Rattle.square.proofs.CarriedLaws.{formed_pairs, with_figures_lem}
 use Rattle.rules.proofs.RulesLaws.{nine_answered}
 use Rattle.rules.proofs.rules.new_answer.Goals as goal
-use Rattle.rules.proofs.rules.new_answer.Goals.{After-bounds_with, After-pairs_at-pairs, In_ok-records_answer, In_ok-steps_answer, Start}
+use Rattle.rules.proofs.rules.new_answer.Goals.{After-pairs_at-pairs, In_ok-records_answer, In_ok-steps_answer, Start}
 
 abbrev coded : Answer → ℕ
 coded a = a.code

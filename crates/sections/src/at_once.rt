@@ -1,6 +1,6 @@
 // Code 8 told from the highest node and two counts over the steps of all plans, with no branch that a step decides: the steps that do
 // not follow on from the one before them, whichever plan that is of, and those of them that are the first of a plan. No step is bad
-// if every node is there and the two counts agree.
+// if every node is there and the two counts agree. Records come as in `records`.
 ghost use Rattle.std.specs.Prelude.{◌≡◌, false, not, ◌&&◌, [], ℕ, ◌+◌, ◌*◌, ◌/◌, ◌%◌, ◌≤◌, ◌<◌, eqb, length};
 ghost use Rattle.trade.specs.Limits.{record_bytes, step_bytes, most_flows, most_steps};
 ghost use Rattle.trade.specs.First.{sum_to};

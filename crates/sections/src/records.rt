@@ -1,4 +1,5 @@
-// The records of a book or a table: ten bytes for each flow, highest priority first.
+// The records of a book or a table: ten bytes for each flow, highest priority first. They are handed on as a count and a slice that holds
+// so many, as `records_answer` and `steps_before` take them (docs/PROMISES.md): a type for the functions between would be made in each.
 ghost use Rattle.std.specs.Prelude.{◌≡◌, false, [], ◌+◌, ◌*◌, ◌≤◌, ◌<◌, eqb, length};
 ghost use Rattle.trade.specs.Limits.{record_bytes, most_flows, most_id};
 ghost use Rattle.trade.specs.First.{some, sum_to};
@@ -43,7 +44,7 @@ fn id_at(records: &[u8], i: usize) -> u16
     word_at(records, Flow::RECORD_BYTES * i)
 }
 
-// Whether a number is outside a range.
+// Whether a number is outside a range. The check does not find that a range that does not contain it says the same.
 fn is_outside(low: u16, high: u16, v: u16) -> bool
     ensures { result ≡ outside low high v }
 {

@@ -1,4 +1,4 @@
-// The steps of a book or a table: the plans in flow order with no gap, and code 8.
+// The steps of a book or a table: the plans in flow order with no gap, and code 8. Records come as in `records`.
 ghost use Rattle.std.specs.Prelude.{◌≡◌, [], ◌+◌, ◌*◌, ◌≤◌, ◌<◌, length, IfSome, IfNone};
 ghost use Rattle.trade.specs.Limits.{record_bytes, step_bytes, most_flows};
 ghost use Rattle.trade.specs.First.{first, sum_to};

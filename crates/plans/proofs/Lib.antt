@@ -2,5 +2,4 @@
 pub mod StepsLaws
 pub mod SingleLaws
 pub mod Callee
-pub mod ViewLaws
 pub mod Unique

@@ -1,4 +1,4 @@
-// How a call answers.
+// How a call answers, as C and what is printed say it, and as the definitions of the rules do.
 ghost use Rattle.std.specs.Prelude.{◌≡◌, ◌<◌};
 ghost use Rattle.trade.specs.Limits.{packing};
 ghost use Rattle.trade.specs.Answers.{done, refused, packed_of};

@@ -4,7 +4,8 @@ ghost use Rattle.trade.specs.Why.{answer_of};
 
 use crate::answer::Answer;
 
-// Why a flow is silent in the slot, or that it is not; or that the call is refused. A flow that waits does so on the flow at a place.
+// Why a flow is silent in the slot, or that it is not; or that the call is refused: one enum, as `ask_of` has it. A flow that waits does so on
+// the flow at a place.
 #[derive(Clone, Copy, Debug, PartialEq, Eq)]
 pub enum Told {
     Refused(Answer),
@@ -15,7 +16,7 @@ pub enum Told {
 }
 
 impl Told {
-    // What stands for each of the four in an answer's number, beside the place that is waited for.
+    // What stands for each of the four in an answer's number, beside the place that is waited for: `answer_of` says so, for C.
     pub const KIND: u64 = 256;
 
     // In one answer.

@@ -7,9 +7,10 @@ ghost use Rattle.table.specs.Table.{kept_in};
 ghost use Rattle.changes.specs.Change.{Returns};
 ghost use Rattle.changes.specs.Moved.{Coming, Comes};
 
+use crate::handed::whole;
 use cut::cut::{clear, put_in, take_out};
 use numbers::numbers::put_word;
-use rules::rules::{enter_answer, old_answer, used_answer};
+use rules::rules::{enter_answer, used_answer};
 use sections::records::steps_before;
 use table::table::Table;
 use trade::{Flow, Node, Plan, Refusal};
@@ -86,14 +87,7 @@ pub(crate) fn enter(
         (kept_in table.new) }
 {
     let count = table.flows as usize;
-    old_answer(
-        table.nodes as usize,
-        count,
-        &table.rows,
-        &table.records,
-        &table.steps,
-        &table.figures,
-    )?;
+    whole(table)?;
     enter_answer(count, place)?;
     let size = Plan::STEP_BYTES * places_taken(flow);
     let mut record = record_bytes(flow);

@@ -9,8 +9,9 @@ ghost use Rattle.table.specs.Table.{sections_in, kept_in};
 ghost use Rattle.changes.specs.Change.{Returns};
 ghost use Rattle.changes.specs.Moved.{Leaving};
 
+use crate::handed::whole;
 use cut::cut::{clear, turn};
-use rules::rules::{leave_answer, old_answer};
+use rules::rules::leave_answer;
 use sections::records::steps_before;
 use square::carried::figures_out;
 use table::table::Table;
@@ -43,14 +44,7 @@ pub(crate) fn leave(table: &mut Table, place: usize) -> Result<(), Refusal>
     ensures { Returns (remove_of (record { table = kept_in table.old; place = place })) (tested result) (kept_in table.new) }
 {
     let count = table.flows as usize;
-    old_answer(
-        table.nodes as usize,
-        count,
-        &table.rows,
-        &table.records,
-        &table.steps,
-        &table.figures,
-    )?;
+    whole(table)?;
     leave_answer(count, place)?;
     flow_out(table, place);
     Ok(())

@@ -3,4 +3,5 @@
 
 pub mod change;
 mod entering;
+mod handed;
 mod leaving;

@@ -56,11 +56,11 @@ refused a r e h k =
     let answered = same ∙ k ∙ sym (add_asked a (λ z. refuses e (ap coded k ∙ z))) in
     record { answer = answered; table = leaves _ _ _ _ answered (λ z. refuses e (sym (ap coded same) ∙ z)) }
 
-pub returns-in_err-old_answer : goal.returns-in_err-old_answer
-returns-in_err-old_answer c =
-    let a = asked (goal.at.returns-in_err-old_answer c).Start in
-    let e = c.in_err-old_answer.field-0.0 in
-    let old = c.in_err-old_answer.ensures in
+pub returns-in_err-whole : goal.returns-in_err-whole
+returns-in_err-whole c =
+    let a = asked (goal.at.returns-in_err-whole c).Start in
+    let e = c.in_err-whole.field-0.0 in
+    let old = c.in_err-whole.ensures in
     refused a c.from_residual.result e c.from_residual.ensures.1
     (old ∙ sym (old_decides (λ b. b.table) enter_rules a (λ z. refuses e (ap coded old ∙ z))))
 
@@ -69,7 +69,7 @@ returns-in_err-enter_answer c =
     let a = asked (goal.at.returns-in_err-enter_answer c).Start in
     let e = c.in_err-enter_answer.field-0.0 in
     refused a c.from_residual-in_err-enter_answer.result e c.from_residual-in_err-enter_answer.ensures.1
-    (c.in_err-enter_answer.ensures ∙ sym (place_decides (λ b. b.table) enter_rules a (sym (ap coded c.in_ok-old_answer.ensures)) ∙ enter_count a))
+    (c.in_err-enter_answer.ensures ∙ sym (place_decides (λ b. b.table) enter_rules a (sym (ap coded c.in_ok-whole.ensures)) ∙ enter_count a))
 
 -- past them the flow may come in
 enters : (c : In_ok-enter_answer) → (s : Start) → (ask_answer (asked s)).code ≡ 0 → Enters (asked s)
@@ -109,7 +109,7 @@ pub flow_in-requires : goal.flow_in-requires
 flow_in-requires c =
     let p = goal.at.flow_in-requires c in
     let a = asked p.Start in
-    let k = asks a (sym (ap coded c.in_ok-old_answer.ensures)) (sym (ap coded c.in_ok-enter_answer.ensures)) in
+    let k = asks a (sym (ap coded c.in_ok-whole.ensures)) (sym (ap coded c.in_ok-enter_answer.ensures)) in
     comes p.After-record_bytes-record a (enters p.In_ok-enter_answer p.Start k) c.record_bytes-record.ensures c.places_taken-size.ensures
 
 pub returns : goal.returns
@@ -117,7 +117,7 @@ unfolding add_by
 returns c =
     let p = goal.at.returns c in
     let a = asked p.Start in
-    let k = asks a (sym (ap coded c.in_ok-old_answer.ensures)) (sym (ap coded c.in_ok-enter_answer.ensures)) in
+    let k = asks a (sym (ap coded c.in_ok-whole.ensures)) (sym (ap coded c.in_ok-enter_answer.ensures)) in
     let made = makes p.After-record_bytes-record a (enters p.In_ok-enter_answer p.Start k) c.record_bytes-record.ensures c.places_taken-size.ensures in
     let e = c.flow_in.ensures.answer ∙ ap (first_of new_rules no_number) made ∙ sym (add_new a k) in
     record {

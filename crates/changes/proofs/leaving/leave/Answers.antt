@@ -39,12 +39,12 @@ refused r tried e h k =
     let answered = same ∙ k in
     record { answer = answered; table = leaves _ _ _ _ answered (λ z. refuses e (sym (ap coded same) ∙ z)) }
 
-pub returns-in_err-old_answer : goal.returns-in_err-old_answer
+pub returns-in_err-whole : goal.returns-in_err-whole
 unfolding remove_answer
-returns-in_err-old_answer c =
-    let r = asked (goal.at.returns-in_err-old_answer c).Start in
-    let e = c.in_err-old_answer.field-0.0 in
-    let old = c.in_err-old_answer.ensures in
+returns-in_err-whole c =
+    let r = asked (goal.at.returns-in_err-whole c).Start in
+    let e = c.in_err-whole.field-0.0 in
+    let old = c.in_err-whole.ensures in
     refused r c.from_residual.result e c.from_residual.ensures.1
     (old ∙ sym (old_decides (λ q. q.table) leave_rules r (λ z. refuses e (ap coded old ∙ z))))
 
@@ -54,7 +54,7 @@ returns-in_err-leave_answer c =
     let r = asked (goal.at.returns-in_err-leave_answer c).Start in
     let e = c.in_err-leave_answer.field-0.0 in
     refused r c.from_residual-in_err-leave_answer.result e c.from_residual-in_err-leave_answer.ensures.1
-    (c.in_err-leave_answer.ensures ∙ sym (place_decides (λ q. q.table) leave_rules r (sym (ap coded c.in_ok-old_answer.ensures)) ∙ leave_count r))
+    (c.in_err-leave_answer.ensures ∙ sym (place_decides (λ q. q.table) leave_rules r (sym (ap coded c.in_ok-whole.ensures)) ∙ leave_count r))
 
 pub flow_out-requires : goal.flow_out-requires
 unfolding remove_answer
@@ -62,12 +62,12 @@ flow_out-requires c =
     let s = (goal.at.flow_out-requires c).Start in
     let r = asked s in
     leave_goes r (memory s)
-    (ap coded (place_decides (λ q. q.table) leave_rules r (sym (ap coded c.in_ok-old_answer.ensures)) ∙ leave_count r) ∙ sym (ap coded c.in_ok-leave_answer.ensures))
+    (ap coded (place_decides (λ q. q.table) leave_rules r (sym (ap coded c.in_ok-whole.ensures)) ∙ leave_count r) ∙ sym (ap coded c.in_ok-leave_answer.ensures))
 
 pub returns : goal.returns
 unfolding remove_of without_flow remove_answer
 returns c =
     let r = asked (goal.at.returns c).Start in
     let e : done 0 ≡ remove_answer r =
-    c.in_ok-leave_answer.ensures ∙ sym (place_decides (λ q. q.table) leave_rules r (sym (ap coded c.in_ok-old_answer.ensures)) ∙ leave_count r) in
+    c.in_ok-leave_answer.ensures ∙ sym (place_decides (λ q. q.table) leave_rules r (sym (ap coded c.in_ok-whole.ensures)) ∙ leave_count r) in
     record { answer = e; table = c.flow_out.ensures ∙ gives _ _ _ _ e refl }

@@ -1,8 +1,9 @@
 -- Each public function's contract leaves one result, and one content of what it was lent. The contracts are those that the check
 -- reads in the code, `Post`. Assumes nothing.
 use mathlib.Core.Path.{◌≡◌, ap, sym, ◌∙◌}
-use Rattle.std.specs.Prelude.{Result, Ok, Err}
+use Rattle.std.specs.Prelude.{Result, Ok, Err, IfOk}
 use Rattle.std.proofs.lemmas.Result.{IfOk-at_ok}
+use Rattle.trade.specs.Layout.{Sections}
 use Rattle.trade.specs.Refusals.{tested}
 use Rattle.trade.specs.declared.answer.Answer.{Answer}
 use Rattle.trade.specs.declared.refusal.Refusal.{Refusal}
@@ -25,19 +26,28 @@ pub same_refusal : {A : Type 0} (r r' : Result A Refusal) → tested r ≡ teste
 same_refusal r (Ok x) e d is = absurd (refuses d (ap (λ (a : Answer). a.code) (sym (ap tested is) ∙ e)))
 same_refusal r (Err d') e d is = ap Err (one_refusal (sym e ∙ ap tested is))
 
--- what is opened has one answer and one refusal, and its parts hold one row of sections
-pub open_book_unique :
-    (κs : _) (a : _) (r r' : _) (s s' : _)
-    → open_book.Post κs a r s
-    → open_book.Post κs a r' s'
-    → (tested r ≡ tested r')
+-- two results have one answer and one refusal, and the parts in them hold one row of sections
+abbrev pub OneParts : Result Parts Refusal → Result Parts Refusal → Type 0
+OneParts r r' =
+    (tested r ≡ tested r')
     × ((p p' : Parts) → r ≡ Ok p → r' ≡ Ok p' → sections_held p ≡ sections_held p')
     × ((d : Refusal) → r ≡ Err d → r' ≡ Err d)
-open_book_unique κs a r r' s s' p q = (
-  one_result p.0 q.0,
-  λ x y e e'. one_result (IfOk-at_ok _ e p.1) (IfOk-at_ok _ e' q.1),
-  same_refusal r r' (one_result p.0 q.0),
+
+pub one_parts :
+    (answer : Answer) (held : Sections) (r r' : Result Parts Refusal)
+    → tested r ≡ answer
+    → IfOk r (λ p. sections_held p ≡ held)
+    → tested r' ≡ answer
+    → IfOk r' (λ p. sections_held p ≡ held)
+    → OneParts r r'
+one_parts answer held r r' a h a' h' = (
+  one_result a a',
+  λ p p' e e'. one_result (IfOk-at_ok _ e h) (IfOk-at_ok _ e' h'),
+  same_refusal r r' (one_result a a'),
 )
+
+pub open_book_unique : (κs : _) (a : _) (r r' : _) (s s' : _) → open_book.Post κs a r s → open_book.Post κs a r' s' → OneParts r r'
+open_book_unique κs a r r' s s' p q = one_parts _ _ r r' p.0 p.1 q.0 q.1
 
 -- a part is lent on: what it holds is one list
 pub rows_of_unique : (κs : _) (a : _) (r r' : _) (s s' : _) → rows_of.Post κs a r s → rows_of.Post κs a r' s' → r.now ≡ r'.now

@@ -1,15 +1,9 @@
 -- Each public function's contract leaves one result, and one content of what it was lent. The contracts are those that the check
 -- reads in the code, `Post`. Assumes nothing.
 use mathlib.Core.Path.{◌≡◌}
-use Rattle.std.specs.Prelude.{Ok, Err}
-use Rattle.std.proofs.lemmas.Result.{IfOk-at_ok}
-use Rattle.trade.specs.Refusals.{tested}
-use Rattle.trade.specs.declared.refusal.Refusal.{Refusal}
 use Rattle.trade.proofs.Unique.{OneResult, one_result}
 use Rattle.trade.proofs.Refusals.{one_number}
-use Rattle.sections.specs.Parts.{sections_held}
-use Rattle.sections.specs.declared.parts.Parts.{Parts}
-use Rattle.book.proofs.Unique.{same_refusal}
+use Rattle.book.proofs.Unique.{OneParts, one_parts}
 use Rattle.table.specs.Table.{kept_in}
 use Rattle.table.specs.declared.table.Table.{Table}
 use Rattle.table.proofs.table.Table.empty.Kinds as empty_kinds
@@ -44,31 +38,11 @@ pub table_of_unique : OneResult 1 table_of_kinds.ps table_of_kinds.r table_of.Po
 table_of_unique κs a r r' s s' p q = same_table r r' (one_result p q)
 
 -- what is tested has one answer and one refusal, and its parts hold one row of sections
-pub table_answer_unique :
-    (κs : _) (a : _) (r r' : _) (s s' : _)
-    → table_answer.Post κs a r s
-    → table_answer.Post κs a r' s'
-    → (tested r ≡ tested r')
-    × ((p p' : Parts) → r ≡ Ok p → r' ≡ Ok p' → sections_held p ≡ sections_held p')
-    × ((d : Refusal) → r ≡ Err d → r' ≡ Err d)
-table_answer_unique κs a r r' s s' p q = (
-  one_result p.0 q.0,
-  λ x y e e'. one_result (IfOk-at_ok _ e p.1) (IfOk-at_ok _ e' q.1),
-  same_refusal r r' (one_result p.0 q.0),
-)
+pub table_answer_unique : (κs : _) (a : _) (r r' : _) (s s' : _) → table_answer.Post κs a r s → table_answer.Post κs a r' s' → OneParts r r'
+table_answer_unique κs a r r' s s' p q = one_parts _ _ r r' p.0 p.1 q.0 q.1
 
-pub parts_unique :
-    (κs : _) (a : _) (r r' : _) (s s' : _)
-    → parts.Post κs a r s
-    → parts.Post κs a r' s'
-    → (tested r ≡ tested r')
-    × ((p p' : Parts) → r ≡ Ok p → r' ≡ Ok p' → sections_held p ≡ sections_held p')
-    × ((d : Refusal) → r ≡ Err d → r' ≡ Err d)
-parts_unique κs a r r' s s' p q = (
-  one_result p.0 q.0,
-  λ x y e e'. one_result (IfOk-at_ok _ e p.1) (IfOk-at_ok _ e' q.1),
-  same_refusal r r' (one_result p.0 q.0),
-)
+pub parts_unique : (κs : _) (a : _) (r r' : _) (s s' : _) → parts.Post κs a r s → parts.Post κs a r' s' → OneParts r r'
+parts_unique κs a r r' s s' p q = one_parts _ _ r r' p.0 p.1 q.0 q.1
 
 pub read_unique : OneResult 1 read_book_kinds.ps read_book_kinds.r read_book.Post
 read_unique κs a r r' s s' p q =

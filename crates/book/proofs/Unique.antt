@@ -14,6 +14,8 @@ use Rattle.sections.specs.declared.parts.Parts.{Parts}
 use Rattle.book.proofs.parts.is_miscounted.Kinds as is_miscounted_kinds
 use Rattle.book.proofs.parts.is_miscounted.Reads as is_miscounted
 use Rattle.book.proofs.parts.open_book.Reads as open_book
+use Rattle.book.proofs.parts.frame_of.Kinds as frame_of_kinds
+use Rattle.book.proofs.parts.frame_of.Reads as frame_of
 use Rattle.book.proofs.parts.rows_of.Reads as rows_of
 use Rattle.book.proofs.parts.records_of.Reads as records_of
 use Rattle.book.proofs.parts.steps_of.Reads as steps_of
@@ -47,7 +49,10 @@ one_parts answer held r r' a h a' h' = (
 )
 
 pub open_book_unique : (κs : _) (a : _) (r r' : _) (s s' : _) → open_book.Post κs a r s → open_book.Post κs a r' s' → OneParts r r'
-open_book_unique κs a r r' s s' p q = one_parts _ _ r r' p.0 p.1 q.0 q.1
+open_book_unique κs a r r' s s' p q = one_parts _ _ r r' p.0 p.1.0 q.0 q.1.0
+
+pub frame_of_unique : OneResult 1 frame_of_kinds.ps frame_of_kinds.r frame_of.Post
+frame_of_unique κs a r r' s s' p q = one_result p.frame q.frame
 
 -- a part is lent on: what it holds is one list
 pub rows_of_unique : (κs : _) (a : _) (r r' : _) (s s' : _) → rows_of.Post κs a r s → rows_of.Post κs a r' s' → r.now ≡ r'.now

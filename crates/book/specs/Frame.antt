@@ -7,6 +7,7 @@ use Rattle.trade.specs.Facts.{said}
 use Rattle.trade.specs.Answers.{done, refused}
 use Rattle.trade.specs.Codes.{outside, code5, code6, code7, code8}
 use Rattle.trade.specs.declared.answer.Answer.{Answer}
+use Rattle.sections.specs.declared.parts.Parts.{Parts}
 use Rattle.book.specs.declared.parts.Trailer.{Trailer}
 use Rattle.book.specs.declared.parts.Frame.{Frame}
 
@@ -59,6 +60,18 @@ frame_of slice =
       records = length slice - records_distance slice;
       steps = length slice - steps_distance slice;
       end = length slice - trailer_bytes;
+    }
+
+-- where the sections that parts hold start in a slice of so many bytes, behind which only the trailer stands, and where the steps end
+unfoldable pub frame_held : Parts → ℕ → Frame
+frame_held p len =
+    record {
+      nodes = p.nodes;
+      flows = p.flows;
+      rows = len - trailer_bytes - length p.steps.now - length p.records.now - length p.rows.now;
+      records = len - trailer_bytes - length p.steps.now - length p.records.now;
+      steps = len - trailer_bytes - length p.steps.now;
+      end = len - trailer_bytes;
     }
 
 -- the parts of a slice lie one behind the other, each as long as the counts say

@@ -7,7 +7,7 @@ ghost use Rattle.trade.specs.Codes.{outside};
 ghost use Rattle.trade.specs.Calls.{read_answer};
 ghost use Rattle.trade.specs.Refusals.{tested};
 ghost use Rattle.sections.specs.Parts.{sections_held};
-ghost use Rattle.book.specs.Frame.{trailer_in, astray, trailer_answer, frame_by, Lies, section_rules};
+ghost use Rattle.book.specs.Frame.{trailer_in, astray, trailer_answer, frame_by, frame_of, frame_held, Lies, section_rules};
 
 use numbers::numbers::word_at;
 use sections::parts::Parts;
@@ -162,10 +162,11 @@ fn sections_answer(slice: &[u8], f: Frame) -> Result<Parts<'_>, Refusal>
     })
 }
 
-// Codes 1 to 8 of a slice, each at its first place, in their order; and the parts of one that passes.
+// Codes 1 to 8 of a slice, each at its first place, in their order; and the parts of one that passes, which lie where its trailer says.
 pub fn open_book(slice: &[u8]) -> Result<Parts<'_>, Refusal>
     ensures answer { tested result ≡ read_answer slice.now }
     ensures parts { IfOk result (λ p. sections_held p ≡ sections_of slice.now) }
+    ensures frame { IfOk result (λ p. frame_held p (length slice.now) ≡ frame_of slice.now) }
 {
     if slice.len() < Book::TRAILER_BYTES {
         return Err(Refusal::Short);
@@ -174,4 +175,14 @@ pub fn open_book(slice: &[u8]) -> Result<Parts<'_>, Refusal>
     let t = trailer_of(&slice[end..]);
     trailer_answer(t, slice.len())?;
     sections_answer(slice, frame_by(t, slice.len()))
+}
+
+// Where the sections of a slice that is a book begin, and where the steps end. The frame borrows nothing: who has it may write at its places.
+pub fn frame_of(slice: &[u8]) -> Frame
+    requires { (read_answer slice.now).code ≡ 0 }
+    ensures { Lies slice.now result }
+{
+    let end = slice.len() - Book::TRAILER_BYTES;
+    let said = trailer_of(&slice[end..]);
+    frame_by(said, slice.len())
 }

@@ -13,6 +13,7 @@ use Rattle.trade.proofs.Refusals.{refuses, handed_on}
 use Rattle.book.specs.Frame.{trailer_in, trailer_answer}
 use Rattle.numbers.proofs.NumbersLaws.{part_tail}
 use Rattle.book.proofs.PartsLaws.{too_short, trailer_refused, trailer_passed, in_order, lies}
+use Rattle.book.proofs.OpenBookLaws.{opened_frame}
 use Rattle.book.proofs.parts.open_book.Goals as goal
 use Rattle.book.proofs.parts.open_book.Goals.{After-trailer_of-t, In_ok-trailer_answer}
 
@@ -60,3 +61,6 @@ returns-clause-answer c =
     let p = goal.at.returns-clause-answer c in
     c.sections_answer.ensures.answer
     ∙ sym (trailer_passed c.args.slice.now (omega arith) (passed p.In_ok-trailer_answer (read p.After-trailer_of-t)))
+
+pub returns-clause-frame : goal.returns-clause-frame
+returns-clause-frame c = opened_frame c.args.slice.now c.sections_answer.result (returns-clause-answer c) c.sections_answer.ensures.parts

@@ -1,5 +1,5 @@
 -- How a call answers: a code and the number that goes with it. Leans on Limits and First.
-use Rattle.std.specs.Prelude.{ℕ, ◌+◌, ◌*◌, Bool, true, false, cond, List, [], ◌∷◌, map, eqb}
+use Rattle.std.specs.Prelude.{ℕ, ◌+◌, ◌*◌, Bool, true, false, cond, List, [], ◌∷◌, ◌++◌, map, eqb, decimal}
 use Rattle.trade.specs.Limits.{packing}
 use Rattle.trade.specs.First.{first, some}
 use Rattle.trade.specs.declared.answer.Answer.{Answer}
@@ -41,3 +41,7 @@ no_number x = 0
 -- the one number that answers C, for the three calls of the crate `radio`
 abbrev pub packed_of : Answer → ℕ
 packed_of a = a.code * packing + a.number
+
+-- how an answer is printed: its code and its number in decimal, with a space between them
+abbrev pub printed_of : Answer → List ℕ
+printed_of a = decimal a.code ++ (32 ∷ []) ++ decimal a.number

@@ -1,7 +1,7 @@
 // How a call answers, as C and what is printed say it, and as the definitions of the rules do.
-ghost use Rattle.std.specs.Prelude.{◌≡◌, ◌<◌};
+ghost use Rattle.std.specs.Prelude.{◌≡◌, ◌<◌, Some};
 ghost use Rattle.trade.specs.Limits.{packing};
-ghost use Rattle.trade.specs.Answers.{done, refused, packed_of};
+ghost use Rattle.trade.specs.Answers.{done, refused, packed_of, printed_of};
 
 use std::fmt;
 
@@ -41,6 +41,8 @@ impl Answer {
 
 // Code and number, with a space between them, as the programs print them.
 impl fmt::Display for Answer {
+    ghost output = { λ answer. Some (printed_of answer) };
+
     fn fmt<W: fmt::Write>(&self, f: &mut fmt::Formatter<W>) -> fmt::Result {
         write!(f, "{} {}", self.code, self.number)
     }

@@ -1,8 +1,9 @@
 // The listing of a book: the bounds of its flows and the grants of its first slots, or why it is refused.
-use crate::lines::{print_book, print_bound, print_grant};
+use crate::lines::{print_book, print_bound, print_grant, print_refusal};
 use crate::stop::{Stop, print_end};
 use book::parts::open_book;
-use bounds::bounds::{Bounds, bounds_of};
+use bounds::acceptance::check;
+use bounds::bounds::{Bounds, Checked};
 use run::advance::advance;
 use run::start::start;
 use sections::parts::Parts;
@@ -42,15 +43,19 @@ fn list_run(rt: &impl Print, book: &[u8]) -> Result<(), Stop> {
     Ok(())
 }
 
-// A book is refused as a whole, before anything else is printed.
-fn list_book(rt: &impl Print, book: &[u8]) -> Result<(), Stop> {
+// A book that check accepts, with the bounds that it reports.
+fn list_book(rt: &impl Print, book: &[u8], bounds: &Bounds) -> Result<(), Stop> {
     let parts = open_book(book)?;
-    let bounds = bounds_of(parts)?;
     print_book(rt, parts.nodes, parts.flows)?;
-    list_bounds(rt, parts, &bounds)?;
+    list_bounds(rt, parts, bounds)?;
     list_run(rt, book)
 }
 
+// A book is refused as a whole, before anything else is printed.
 pub fn list(rt: &impl Print, book: &[u8]) -> io::Result<()> {
-    print_end(rt, list_book(rt, book))
+    let Checked { answer, bounds } = check(book);
+    if answer.code != 0 {
+        return print_refusal(rt, answer);
+    }
+    print_end(rt, list_book(rt, book, &bounds))
 }

@@ -1,5 +1,5 @@
 // Why a listing ends early.
-ghost use Rattle.std.specs.Prelude.{◌≡◌};
+ghost use Rattle.std.specs.Prelude.{◌≡◌, Ok, Err, MatchResult};
 ghost use Rattle.listing.specs.declared.stop.Stop.TheVariants.{Failed, Refused};
 
 use crate::lines::print_refusal;
@@ -30,8 +30,10 @@ impl From<io::Error> for Stop {
     }
 }
 
-// A refusal is the last line of a listing.
-pub fn print_end(rt: &impl Print, listed: Result<(), Stop>) -> io::Result<()> {
+// A refusal is the last line of a listing; where a line can't be printed, that is the end of it too, and of the program.
+pub fn print_end(rt: &impl Print, listed: Result<(), Stop>) -> io::Result<()>
+    ensures { MatchResult listed (λ all. result ≡ Ok all) (λ stop. (error : _) → stop ≡ Failed error → result ≡ Err error) }
+{
     match listed {
         Ok(()) => Ok(()),
         Err(Stop::Refused(refusal)) => print_refusal(rt, refusal.answer()),

@@ -1,4 +1,6 @@
 // The arguments of the program, and what they ask.
+ghost use Rattle.std.specs.Prelude.{◌≤◌, length, IfSome};
+
 use listing::listed::SLOTS;
 use std::env::FillError;
 use std::rt::Env;
@@ -16,7 +18,9 @@ fn slots_in(text: &str) -> Option<u32> {
 }
 
 // An argument, put into a buffer; none where it is missing, longer than the buffer, or no text.
-fn arg<'a>(rt: &impl Env, i: usize, buffer: &'a mut [u8]) -> Option<&'a str> {
+fn arg<'a>(rt: &impl Env, i: usize, buffer: &'a mut [u8]) -> Option<&'a str>
+    ensures { IfSome result (λ text. length text.now ≤ length buffer.old) }
+{
     let n = rt.arg(i, buffer).ok()?;
     str::from_utf8(&buffer[..n]).ok()
 }

@@ -1,4 +1,6 @@
 // What a request hands over, taken from standard input; an error where the input ends too soon.
+ghost use Rattle.std.specs.Prelude.{◌≤◌, length, IfOk};
+
 use sections::records::record_at;
 use std::io;
 use std::io::Read;
@@ -61,7 +63,9 @@ pub(crate) fn next_call(reader: &mut impl Read) -> io::Result<Result<Call, NoCal
 pub(crate) fn next_part<'a>(
     reader: &mut impl Read,
     room: &'a mut [u8; ROOM],
-) -> io::Result<&'a mut [u8]> {
+) -> io::Result<&'a mut [u8]>
+    ensures { IfOk result (λ part. length part.now ≤ length room.old) }
+{
     let len = u16::from_be_bytes(next_bytes(reader)?);
     let part = &mut room[..usize::from(len)];
     reader.read_exact(part)?;

@@ -136,20 +136,24 @@ pub fn table_answer<'a>(
 pub fn read(book: &[u8]) -> Got
     ensures { Reads book.now result }
 {
-    match open_book(book) {
-        Ok(parts) => Got {
-            answer: Answer::done(0),
-            table: table_of(
-                parts.nodes as u8,
-                parts.flows as u8,
-                parts.rows,
-                parts.records,
-                parts.steps,
-            ),
-        },
-        Err(refusal) => Got {
-            answer: refusal.answer(),
-            table: Table::empty(),
-        },
+    let parts = match open_book(book) {
+        Ok(parts) => parts,
+        Err(refusal) => {
+            return Got {
+                answer: refusal.answer(),
+                table: Table::empty(),
+            };
+        }
+    };
+    let table = table_of(
+        parts.nodes as u8,
+        parts.flows as u8,
+        parts.rows,
+        parts.records,
+        parts.steps,
+    );
+    Got {
+        answer: Answer::done(0),
+        table,
     }
 }

@@ -24,23 +24,23 @@ overflow_cast-parts c =
     let (done, held) = opened (goal.at.overflow_cast-parts c).In-Ok in
     omega (arith, ap (λ (s : Sections). s.nodes) held, (done_lies c.args.book.now done).nodes)
 
-pub table_of-requires-clause-rows_len_bound : goal.table_of-requires-clause-rows_len_bound
-table_of-requires-clause-rows_len_bound c =
+pub table_of-table-requires-clause-rows_len_bound : goal.table_of-table-requires-clause-rows_len_bound
+table_of-table-requires-clause-rows_len_bound c =
     let book = c.args.book.now in
-    let (done, held) = opened (goal.at.table_of-requires-clause-rows_len_bound c).In-Ok in (
+    let (done, held) = opened (goal.at.table_of-table-requires-clause-rows_len_bound c).In-Ok in (
       rw (ap (λ (s : Sections). s.rows) held) (rows_fit book done),
       rw (ap (λ (s : Sections). s.records) held) (records_fit book done),
       rw (ap (λ (s : Sections). s.steps) held) (steps_fit book done),
     )
 
-pub returns-in-Ok : goal.returns-in-Ok
+pub returns : goal.returns
 unfolding read_of
-returns-in-Ok c =
+returns c =
     let book = c.args.book.now in
-    let (done, held) = opened (goal.at.returns-in-Ok c).In-Ok in
+    let (done, held) = opened (goal.at.returns c).In-Ok in
     record {
       answer = c.done.ensures ∙ c.in-Ok.ensures.answer;
-      table = c.table_of.ensures ∙ ap (λ (s : Sections). table_with s.nodes s.flows s.rows s.records s.steps) held ∙ sym (read_done book done);
+      table = c.table_of-table.ensures ∙ ap (λ (s : Sections). table_with s.nodes s.flows s.rows s.records s.steps) held ∙ sym (read_done book done);
     }
 
 pub returns-in-Err : goal.returns-in-Err

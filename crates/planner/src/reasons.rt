@@ -54,7 +54,7 @@ impl<'a> Course<'a> {
     }
 
     // Slot by slot.
-    fn tell(&mut self, rt: &impl Print, slots: u32) -> Result<(), Stop> {
+    fn tell(mut self, rt: &impl Print, slots: u32) -> Result<(), Stop> {
         let mut grants = [0u8; Flow::MOST * Grant::BYTES];
         for slot in 0..slots {
             self.tell_slot(rt, Slot(slot))?;
@@ -66,7 +66,7 @@ impl<'a> Course<'a> {
 
 // A book is refused as a whole, before anything else is printed.
 fn tell_book(rt: &impl Print, book: &[u8], slots: u32) -> Result<(), Stop> {
-    let mut course = Course::start(book)?;
+    let course = Course::start(book)?;
     print_book(rt, course.parts.nodes, course.parts.flows)?;
     course.tell(rt, slots)
 }

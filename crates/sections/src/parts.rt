@@ -1,4 +1,5 @@
-// The sections of a book or a table that have passed codes 3, 5, 6 and 8, where they lie. Whoever makes the value has proved it of them.
+// The sections of a book or a table that passed, where they lie. Whoever makes the value has proved that they are formed: that the fields of each
+// record, its plan and its steps are such as the bounds and a slot need them. Codes 3 and 5, and the ids of 6, are no part of that.
 ghost use Rattle.sections.specs.Formed.{Formed};
 
 use crate::records::{len_at, record_at, steps_before};

@@ -1,15 +1,15 @@
 // The figures of a table carried over a change: those of two flows that stay go with them, and only a newcomer's with each other flow are
 // worked out. They are changed where they lie: a line is read before another is put in its place.
-ghost use Rattle.std.specs.Prelude.{◌≡◌, ℕ, ◌+◌, ◌≤◌, ◌<◌, get_or};
+ghost use Rattle.std.specs.Prelude.{◌≡◌, ℕ, ◌+◌, ◌≤◌, ◌<◌, length, get_or};
 ghost use Rattle.trade.specs.Limits.{most_flows};
 ghost use Rattle.trade.specs.First.{list_to};
 ghost use Rattle.trade.specs.Bytes.{padded};
 ghost use Rattle.trade.specs.Facts.{facts_in};
 ghost use Rattle.trade.specs.Exchange.{before_out};
-ghost use Rattle.trade.specs.Kept.{figure_in};
+ghost use Rattle.trade.specs.Kept.{figures_room, figure_in};
 ghost use Rattle.square.specs.Carried.{pairs_of, figure_with, with_figures, without_figures};
 
-use crate::kept::{Figures, clear_from, line_from, put_line};
+use crate::kept::{clear_from, line_from, put_line};
 use figures::heard::Heard;
 use sections::parts::Parts;
 use trade::{Flow, Node};
@@ -42,10 +42,10 @@ fn front(pairs: &[u32; Flow::MOST], count: usize) -> [u32; Flow::MOST]
 pub fn line_with(
     place: usize,
     pairs: &[u32; Flow::MOST],
-    figures: &Figures,
+    figures: &[u8],
     l: usize,
 ) -> [u32; Flow::MOST]
-    requires { l < most_flows }
+    requires { (length figures.now ≡ figures_room) × (l < most_flows) }
     ensures { result ≡ padded most_flows (list_to (figure_with place pairs.now figures.now l) l) }
 {
     if l < place {
@@ -61,8 +61,8 @@ pub fn line_with(
 
 // The figures of all flows where one has come in at a place, and every other zero: from the last line up, since each comes from its own
 // place or the one above.
-pub fn figures_in(flows: usize, place: usize, pairs: &[u32; Flow::MOST], figures: &mut Figures)
-    requires { (i : ℕ) → get_or pairs.now i 0 < 256 }
+pub fn figures_in(flows: usize, place: usize, pairs: &[u32; Flow::MOST], figures: &mut [u8])
+    requires { (length figures.old ≡ figures_room) × ((i : ℕ) → get_or pairs.now i 0 < 256) }
     ensures { figures.new ≡ with_figures flows place pairs.now figures.old }
 {
     // A table has no line past its last, however many flows there are.
@@ -75,8 +75,8 @@ pub fn figures_in(flows: usize, place: usize, pairs: &[u32; Flow::MOST], figures
 }
 
 // The figures of flow l where the one at a place has gone, from those of before.
-fn line_without(place: usize, figures: &Figures, l: usize) -> [u32; Flow::MOST]
-    requires { l + 1 < most_flows }
+fn line_without(place: usize, figures: &[u8], l: usize) -> [u32; Flow::MOST]
+    requires { (length figures.now ≡ figures_room) × (l + 1 < most_flows) }
     ensures { result ≡ padded most_flows (list_to (λ h. figure_in figures.now (before_out place l) (before_out place h)) l) }
 {
     if l < place {
@@ -87,8 +87,8 @@ fn line_without(place: usize, figures: &Figures, l: usize) -> [u32; Flow::MOST]
 
 // The figures of all flows that are left where the one at a place has gone, and every other zero: from the first line down, since each comes
 // from its own place or the one below.
-pub fn figures_out(flows: usize, place: usize, figures: &mut Figures)
-    requires { flows < most_flows }
+pub fn figures_out(flows: usize, place: usize, figures: &mut [u8])
+    requires { (flows < most_flows) × (length figures.old ≡ figures_room) }
     ensures { figures.new ≡ without_figures flows place figures.old }
 {
     for l in 0..flows {

@@ -28,10 +28,11 @@ pub put_line-requires : goal.put_line-requires
 put_line-requires c =
     let a = c.args in
     let loop = c.loop-l in (
+      loop.invariant.size,
       omega (arith, c.min-used.ensures),
       λ h p.
           rw (line (goal.at.put_line-requires c).After-line_with-line)
-          (line_bytes (loop.l - 1) _ (λ k b. with_bytes a.place a.pairs.now a.figures.now c.requires (λ i. omega arith) (loop.l - 1) k) h),
+          (line_bytes (loop.l - 1) _ (λ k b. with_bytes a.place a.pairs.now a.figures.now c.requires.1 (λ i. omega (arith, c.slice_known-1.given i)) (loop.l - 1) k) h),
     )
 
 pub loop-l-preserved : goal.loop-l-preserved

@@ -12,4 +12,4 @@ returns c =
     all_from_yields_List (λ (p : ℕ × ℕ). eqb p.0 p.1) c.all.new.self _ _ c.all.ensures.ran
     (YieldsList-from_zip (YieldsList-from_slice (from_line a.figures.now a.l) cc) (YieldsList-from_slice (take a.l a.line.now) cc))
     (λ x b q k. search (rules, tests))
-    ∙ line_same a.figures.now a.line.now a.l c.told-figures c.told-line c.requires
+    ∙ line_same a.figures.now a.line.now a.l c.requires.0 c.told-line c.requires.1

@@ -20,6 +20,7 @@ pub put_line-requires : goal.put_line-requires
 put_line-requires c =
     let a = c.args in
     let loop = c.loop-l in (
+      loop.invariant.size,
       omega (arith, c.args.parts.formed.most),
       λ h p.
           rw (rw c.of-heard.ensures.parts at c.figures_at.ensures)

@@ -1,9 +1,10 @@
 // Costs that a table carries: its figures, and with them those of a flow that has come in.
-ghost use Rattle.std.specs.Prelude.{ℕ, ◌<◌, get_or};
+ghost use Rattle.std.specs.Prelude.{◌≡◌, ℕ, ◌<◌, length, get_or};
+ghost use Rattle.trade.specs.Kept.{figures_room};
 
 use crate::costs::Costs;
 use square::carried::line_with;
-use square::kept::{Figures, line_from};
+use square::kept::line_from;
 use trade::Flow;
 
 // The newcomer's place and its pairs, and the figures of before.
@@ -11,7 +12,8 @@ use trade::Flow;
 pub(crate) struct Carried<'a> {
     pub place: usize,
     pub pairs: &'a [u32; Flow::MOST],
-    pub figures: &'a Figures,
+    pub figures: &'a [u8],
+    pub ghost room: { length figures.now ≡ figures_room },
     pub ghost small: { (i : ℕ) → get_or pairs.now i 0 < 256 },
     pub ghost bytes: { (i : ℕ) → get_or figures.now i 0 < 256 },
 }
@@ -32,7 +34,8 @@ impl<'a> Costs for Carried<'a> {
 // The figures alone, as they stand.
 #[derive(Clone, Copy)]
 pub(crate) struct Kept<'a> {
-    pub figures: &'a Figures,
+    pub figures: &'a [u8],
+    pub ghost room: { length figures.now ≡ figures_room },
     pub ghost bytes: { (i : ℕ) → get_or figures.now i 0 < 256 },
 }
 

@@ -15,18 +15,18 @@ use sections::parts::Parts;
 use sections::records::records_answer;
 use sections::steps::steps_answer;
 use square::carried::{figures_in, pairs_at};
-use square::kept::{Figures, kept_answer};
+use square::kept::kept_answer;
 use table::table::table_answer;
 use trade::{Flow, Node, Refusal};
 
-// Codes 3, 5, 6, 8 and 17 on the old table. It takes the sections as slices, as docs/PROMISES.md lists it: a `Table` would ask for whole arrays.
+// Codes 3, 5, 6, 8 and 17 on the old table. It takes slices, as docs/PROMISES.md lists it: a `Table` would ask for whole arrays.
 pub fn old_answer<'a>(
     nodes: usize,
     flows: usize,
     rows: &'a [u8],
     records: &'a [u8],
     steps: &'a [u8],
-    figures: &'a Figures,
+    figures: &'a [u8],
 ) -> Result<(), Refusal>
     requires { KeptInMemory (tabled nodes flows rows.now records.now steps.now figures.now) }
     ensures { tested result ≡ first_of old_rules no_number (tabled nodes flows rows.now records.now steps.now figures.now) }
@@ -68,7 +68,7 @@ fn new_answer<'a>(
     records: &'a [u8],
     steps: &'a [u8],
     place: usize,
-    figures: &mut Figures,
+    figures: &mut [u8],
 ) -> Result<(), Refusal>
     requires new { New (sections nodes flows rows.now records.now steps.now) }
     requires carried { Carried (sections nodes flows rows.now records.now steps.now) place figures.old }
@@ -89,7 +89,7 @@ fn new_answer<'a>(
     Ok(())
 }
 
-// The same on the used places of lent sections, where the steps in use end at this byte. They are slices for the same reason as in `old_answer`.
+// The same on the used places of lent sections, where the steps in use end at this byte. It takes slices for the same reason as `old_answer`.
 pub fn used_answer<'a>(
     nodes: usize,
     flows: usize,
@@ -98,7 +98,7 @@ pub fn used_answer<'a>(
     steps: &'a [u8],
     end: usize,
     place: usize,
-    figures: &mut Figures,
+    figures: &mut [u8],
 ) -> Result<(), Refusal>
     requires new { New (sections nodes flows (take (row_bytes * nodes) rows.now) (take (record_bytes * flows) records.now) (take end steps.now)) }
     requires end_in_bounds { end ≤ length steps.now }

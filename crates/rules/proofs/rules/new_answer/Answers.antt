@@ -103,7 +103,7 @@ bounds_with-requires c =
     let p = goal.at.bounds_with-requires c in
     let t = given p.Start in
     let f = formed t c.requires.new (six p.In_ok-records_answer t (code6_records t)) (eight p.In_ok-steps_answer t (code8_steps t)) in
-    (formed_timed _ _ _ _ f, bytes p.After-pairs_at-pairs f)
+    (formed_timed _ _ _ _ f, c.requires.carried.size, bytes p.After-pairs_at-pairs f)
 
 pub returns-in_err-bounds_with : goal.returns-in_err-bounds_with
 returns-in_err-bounds_with c =
@@ -119,7 +119,7 @@ pub figures_in-requires : goal.figures_in-requires
 figures_in-requires c =
     let p = goal.at.figures_in-requires c in
     let t = given p.Start in
-    bytes p.After-pairs_at-pairs (formed t c.requires.new (six p.In_ok-records_answer t (code6_records t)) (eight p.In_ok-steps_answer t (code8_steps t)))
+    (c.requires.carried.size, bytes p.After-pairs_at-pairs (formed t c.requires.new (six p.In_ok-records_answer t (code6_records t)) (eight p.In_ok-steps_answer t (code8_steps t))))
 
 pub returns : goal.returns
 returns c =

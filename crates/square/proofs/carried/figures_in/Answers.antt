@@ -4,6 +4,7 @@ use Prim.Native.Nat.{ℕ, ◌+◌, ◌-◌}
 use mathlib.Core.Path.{◌≡◌, refl, sym, ◌∙◌, ap}
 use mathlib.Core.Bool.{Bool, not, ◌&&◌}
 use native.Mathlib.Omega.{arith}
+use Rattle.std.proofs.Common.{rules}
 use borrow.Author.Tests.{lt-ltb, le-ltb}
 use lib.Dec.{ltb}
 use Rattle.trade.specs.Limits.{most_flows}
@@ -32,7 +33,7 @@ put_line-requires c =
       omega (arith, c.min-used.ensures),
       λ h p.
           rw (line (goal.at.put_line-requires c).After-line_with-line)
-          (line_bytes (loop.l - 1) _ (λ k b. with_bytes a.place a.pairs.now a.figures.now c.requires.1 (λ i. omega (arith, c.slice_known-1.given i)) (loop.l - 1) k) h),
+          (line_bytes (loop.l - 1) _ (λ k b. with_bytes a.place a.pairs.now a.figures.now c.requires.1 (λ i. search rules) (loop.l - 1) k) h),
     )
 
 pub loop-l-preserved : goal.loop-l-preserved

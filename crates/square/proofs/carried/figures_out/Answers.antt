@@ -1,12 +1,12 @@
 -- `square::carried::figures_out` puts line by line. The loop's invariant: the first l lines hold their figures. Assumes nothing.
-use Prim.Native.Nat.{◌+◌, ◌*◌}
+use Prim.Native.Nat.{◌+◌}
 use mathlib.Core.Path.{◌≡◌, ◌∙◌}
+use Rattle.std.proofs.Common.{rules}
 use native.Mathlib.Omega.{arith}
 use borrow.Author.Tests.{lt-ltb, le-ltb}
 use lib.Dec.{ltb}
 use Rattle.trade.specs.Limits.{most_flows}
 use Rattle.trade.specs.Kept.{figure_in}
-use Rattle.trade.specs.Exchange.{before_out}
 use Rattle.square.specs.Carried.{without_figures}
 use Rattle.figures.proofs.Padded.{filled}
 use Rattle.square.proofs.KeptLaws.{line_bytes, lines_more, lines_all, one_more, unused}
@@ -20,7 +20,7 @@ line c =
     let a = c.args in
     let loop = c.loop-l in
     c.line_without-line.ensures
-    ∙ left_left _ a.place a.figures.now (λ j. ltb j loop.l) loop.figures loop.l loop.invariant (omega (arith, c.requires.0)) (λ j h. le-ltb j loop.l h)
+    ∙ left_left _ a.place a.figures.now (λ j. ltb j loop.l) loop.figures loop.l loop.invariant (omega arith) (λ j h. le-ltb j loop.l h)
 
 pub put_line-requires : goal.put_line-requires
 unfolding figure_in
@@ -28,10 +28,10 @@ put_line-requires c =
     let a = c.args in
     let loop = c.loop-l in (
       loop.invariant.size,
-      omega (arith, c.requires.0),
+      omega arith,
       λ h p.
           rw (line (goal.at.put_line-requires c).After-line_without-line)
-          (line_bytes loop.l _ (λ k b. omega (arith, c.slice_known-1.given (most_flows * before_out a.place loop.l + before_out a.place k))) h),
+          (line_bytes loop.l _ (λ k b. search rules) h),
     )
 
 pub loop-l-preserved : goal.loop-l-preserved

@@ -27,9 +27,6 @@ loop-l-init c = (omega arith, λ k h. absurd (omega arith))
 pub figures_at-requires : goal.figures_at-requires
 figures_at-requires c = rw c.of-heard.ensures.parts (omega arith)
 
-pub is_line-requires : goal.is_line-requires
-is_line-requires c = (c.requires, omega (arith, c.args.parts.formed.most))
-
 -- whether the line is right
 right : (c : After-is_line) → c.is_line.result ≡ not (wrong_line (own c.args.parts c.args.figures.now) c.loop-l.l)
 right c =

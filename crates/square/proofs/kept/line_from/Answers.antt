@@ -18,17 +18,17 @@ place : (c : After-shift) → most_flows * c.args.line + c.shift.result < 1024
 place c =
     let a = c.args in
     let h : ℕ = c.loop-h.h in
-    omega (arith, c.shift.ensures, shifted_most a.cut a.ahead a.back h, c.requires.1, c.requires.2)
+    omega (arith, c.shift.ensures, shifted_most a.cut a.ahead a.back h)
 
 pub overflow_add-read : goal.overflow_add-read
 overflow_add-read c = record { fits = omega (arith, place (goal.at.overflow_add-read c).After-shift) }
 
 pub bounds-figures-line : goal.bounds-figures-line
-bounds-figures-line c = omega (arith, place (goal.at.bounds-figures-line c).After-shift, c.requires.0)
+bounds-figures-line c = omega (arith, place (goal.at.bounds-figures-line c).After-shift)
 
 pub loop-h-preserved : goal.loop-h-preserved
 unfolding figure_in
 loop-h-preserved c =
     let a = c.args in
     let loop = c.loop-h in
-    rw (loop.invariant, c.shift.ensures) (filled_more most_flows (from a.figures.now a.line a.cut a.ahead a.back) loop.h (omega (arith, c.requires.2)))
+    rw (loop.invariant, c.shift.ensures) (filled_more most_flows (from a.figures.now a.line a.cut a.ahead a.back) loop.h (omega arith))

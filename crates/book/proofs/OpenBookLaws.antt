@@ -1,5 +1,5 @@
 -- A book that passes codes 1 to 8: its parts lie in the slice, a table has room for them, and its sections are well formed.
--- Leans on the trade's Whole and the sections' FormedLaws. Assumes nothing.
+-- Leans on PartsLaws, the trade's Whole and the sections' FormedLaws. Assumes nothing.
 use Prim.Native.Nat.{ℕ, ◌≤◌}
 use mathlib.Core.Path.{◌≡◌, refl, ap, sym, ◌∙◌}
 use mathlib.Core.List.{List}

@@ -1,4 +1,4 @@
--- Where the parts of a book lie in its slice, by its trailer. Leans on the trade's layout and codes.
+-- Where the parts of a book lie in its slice, by its trailer. Leans on the trade's layout and codes, and on the sections' Parts.
 use Rattle.std.specs.Prelude.{ℕ, ◌+◌, ◌-◌, ◌*◌, ◌%◌, ◌≤◌, ◌≡◌, Bool, cond, not, ◌&&◌, ◌||◌, List, [], ◌∷◌, eqb, ltb, length}
 use Rattle.trade.specs.Limits.{mark, most_nodes, most_flows, row_bytes, record_bytes, trailer_bytes}
 use Rattle.trade.specs.Bytes.{byte, word}

@@ -1,5 +1,6 @@
-// The sections of a book or a table that passed, where they lie. Whoever makes the value has proved that they are formed: that the fields of each
-// record, its plan and its steps are such as the bounds and a slot need them. Codes 3 and 5, and the ids of 6, are no part of that.
+// The sections of a book or a table that passed, where they lie. Whoever makes the value has proved that they are formed, as far as the bounds and
+// a slot read them. Of code 3 only that there are at most 32 flows is a part of that; code 5, the ids and phases of 6, and that steps go on from
+// one another, are none.
 ghost use Rattle.sections.specs.Formed.{Formed};
 
 use crate::records::{len_at, record_at, steps_before};

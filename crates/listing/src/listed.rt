@@ -51,7 +51,7 @@ fn list_book(rt: &impl Print, book: &[u8], bounds: &Bounds) -> Result<(), Stop> 
     list_run(rt, book)
 }
 
-// A book is refused as a whole, before anything else is printed.
+// A book is refused as a whole, before anything else is printed. Check promises zeros beside a refusal and is no Result, so its code is asked.
 pub fn list(rt: &impl Print, book: &[u8]) -> io::Result<()> {
     let Checked { answer, bounds } = check(book);
     if answer.code != 0 {

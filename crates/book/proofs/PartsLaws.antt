@@ -22,6 +22,7 @@ use Rattle.trade.specs.declared.answer.Answer.{Answer}
 use Rattle.trade.proofs.First.{or_false}
 use Rattle.trade.proofs.Answers.{first_of_rule, first_of_pass, first_of_refuse, first_of_last, given_passes, given_true, given_false}
 use Rattle.trade.proofs.Valid.{outside_false}
+use Rattle.numbers.proofs.NumbersLaws.{part_tail}
 use Rattle.sections.proofs.OwnSections.{code5_rows, code6_records, code8_steps}
 use Rattle.book.specs.Frame.{trailer_in, astray, trailer_answer, frame_by, frame_of, Lies, section_rules}
 use Rattle.book.specs.declared.parts.Frame.{Frame}
@@ -146,6 +147,11 @@ unfolding read_answer book_rules code1
 too_short slice h =
     let e = given_true 1 (ltb (length slice) trailer_bytes) 0 (lt-ltb _ _ h) in
     first_of_refuse _ _ no_number slice (λ z. let o : ◌≡◌ {A = ℕ} 1 0 = sym (ap (λ (r : Answer). r.code) e) ∙ z in omega arith) ∙ e
+
+-- the part that starts ten bytes before the end is the trailer
+pub trailer_read : (slice : List ℕ) → trailer_in (take (length slice - (length slice - trailer_bytes)) (drop (length slice - trailer_bytes) slice)) ≡ trailer_in (trailer slice)
+unfolding trailer
+trailer_read slice = ap trailer_in (part_tail (length slice - trailer_bytes) slice)
 
 -- three rules in a row, by their tests
 chain : Bool → Bool → Bool → Answer

@@ -1,20 +1,20 @@
 -- `book::parts::frame_of` meets its contract: the trailer of a book says where its sections lie. Assumes nothing.
 use Prim.Native.Nat.{◌-◌}
-use mathlib.Core.Path.{◌≡◌, ◌∙◌, ap}
+use mathlib.Core.Path.{◌≡◌, ◌∙◌}
 use native.Mathlib.Omega.{arith}
 use lib.ListN.{length, length-drop}
 use Rattle.trade.specs.Limits.{trailer_bytes}
 use Rattle.trade.specs.Layout.{trailer}
 use Rattle.numbers.proofs.NumbersLaws.{part_tail}
 use Rattle.book.specs.Frame.{trailer_in}
+use Rattle.book.proofs.PartsLaws.{trailer_read}
 use Rattle.book.proofs.OpenBookLaws.{said_lies, said_within}
 use Rattle.book.proofs.parts.frame_of.Goals as goal
 use Rattle.book.proofs.parts.frame_of.Goals.{After-trailer_of-said}
 
 -- the trailer that is read is the slice's
 read : (c : After-trailer_of-said) → c.trailer_of-said.result ≡ trailer_in (trailer c.args.slice.now)
-unfolding trailer
-read c = c.trailer_of-said.ensures ∙ ap trailer_in (part_tail (length c.args.slice.now - trailer_bytes) c.args.slice.now)
+read c = c.trailer_of-said.ensures ∙ trailer_read c.args.slice.now
 
 pub overflow_sub-end : goal.overflow_sub-end
 overflow_sub-end c = (said_within c.args.slice.now c.requires).0

@@ -1,26 +1,22 @@
 -- `book::parts::open_book` meets its contract: the trailer decides codes 2 to 4, and the parts that it gives lie in the slice.
 -- Assumes nothing.
-use Prim.Native.Nat.{◌-◌}
 use mathlib.Core.Path.{◌≡◌, ◌∙◌, sym, ap}
 use native.Mathlib.Omega.{arith}
 use lib.ListN.{length}
-use Rattle.trade.specs.Limits.{trailer_bytes}
 use Rattle.trade.specs.Layout.{trailer}
 use Rattle.trade.specs.Answers.{done}
 use Rattle.trade.specs.Refusals.{answer_of}
 use Rattle.trade.specs.declared.answer.Answer.{Answer}
 use Rattle.trade.proofs.Refusals.{refuses, handed_on}
 use Rattle.book.specs.Frame.{trailer_in, trailer_answer}
-use Rattle.numbers.proofs.NumbersLaws.{part_tail}
-use Rattle.book.proofs.PartsLaws.{too_short, trailer_refused, trailer_passed, in_order, lies}
+use Rattle.book.proofs.PartsLaws.{trailer_read, too_short, trailer_refused, trailer_passed, in_order, lies}
 use Rattle.book.proofs.OpenBookLaws.{opened_frame}
 use Rattle.book.proofs.parts.open_book.Goals as goal
 use Rattle.book.proofs.parts.open_book.Goals.{After-trailer_of-t, In_ok-trailer_answer}
 
 -- the trailer that is read is the slice's
 read : (c : After-trailer_of-t) → c.trailer_of-t.result ≡ trailer_in (trailer c.args.slice.now)
-unfolding trailer
-read c = c.trailer_of-t.ensures ∙ ap trailer_in (part_tail (length c.args.slice.now - trailer_bytes) c.args.slice.now)
+read c = c.trailer_of-t.ensures ∙ trailer_read c.args.slice.now
 
 -- where it passes, it says where the parts lie
 passed :
